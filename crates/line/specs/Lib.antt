@@ -1,0 +1,11 @@
+pub mod Wire
+pub mod Scan
+pub mod Reader
+pub mod Pieces
+pub mod Answers
+pub mod Code
+pub mod ScanLaws
+pub mod ReaderLaws
+pub mod PieceLaws
+pub mod ByPieces
+pub mod CallLaws
