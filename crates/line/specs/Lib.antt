@@ -1,4 +1,5 @@
 pub mod Wire
+pub mod WireLaws
 pub mod Scan
 pub mod Reader
 pub mod Pieces

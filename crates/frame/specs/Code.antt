@@ -1,0 +1,35 @@
+-- What the frame layer's private functions answer.
+use Prim.Native.Nat.{ℕ, _+_, _/_, _%_}
+use mathlib.Core.Path.{_≡_}
+use mathlib.Core.List.{List, [], _∷_}
+use Rattle.line.specs.declared.Fault.{Fault}
+use Rattle.line.specs.declared.Fault.the-variants as fault
+use Rattle.line.specs.declared.Outcome.{Outcome as Got}
+use Rattle.line.specs.Answers.{told as packetOf}
+use Rattle.frame.specs.declared.Refusal.{Refusal}
+use Rattle.frame.specs.declared.Refusal.the-variants as cause
+use Rattle.frame.specs.declared.Judged.{Judged}
+use Rattle.frame.specs.declared.Judged.the-variants as judged
+use Rattle.frame.specs.declared.Outcome.{Outcome}
+use Rattle.frame.specs.declared.Outcome.the-variants as given
+use Rattle.frame.specs.Reading.{verdict}
+use Rattle.frame.specs.Answers.{told, Within}
+
+-- `cause_of`: a fault of the line reader, as a cause of refusal
+abbrev pub causeOf : Fault → Refusal
+causeOf fault.WrongEscape = cause.WrongEscape
+causeOf fault.TooLong = cause.TooLong
+
+-- `outcome_of`: a judgement, as an outcome
+abbrev pub outcomeOf : Judged → Outcome
+outcomeOf (judged.Frame c s n) = given.Frame c n
+outcomeOf (judged.Refused r) = given.Refused r
+
+-- `judge_in`: the outcome is the line reader's, judged
+pub record Judging (bs : List ℕ) (g : Got) (r : Outcome) : Type 0 where
+  pub told : told r bs ≡ verdict (packetOf g bs)
+  pub within : Within r
+
+-- `head_of`: the bytes before n data bytes
+abbrev pub header : ℕ → ℕ → List ℕ
+header c n = 0 ∷ (n + 3) ∷ c / 256 ∷ c % 256 ∷ []

@@ -1,0 +1,15 @@
+pub mod Xor
+pub mod Frame
+pub mod Reading
+pub mod Answers
+pub mod Writing
+pub mod Code
+pub mod Damage
+pub mod XorLaws
+pub mod JudgeLaws
+pub mod WireLaws
+pub mod ReadingLaws
+pub mod EscapeLaws
+pub mod RoundTrip
+pub mod ChangeLaws
+pub mod DamageLaws
