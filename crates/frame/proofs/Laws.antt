@@ -73,8 +73,9 @@ judging bs n g (judged.Frame c s k) r e f x h l =
           (ap some
           (ap (frame c) (sym (front-part bs n k (q ∙ w))) ∙ ap (λ (i : ℕ). frame c (take k (drop i (take n bs)))) (sym p) ∙ x .told));
       within = rw f m;
+      full = l;
     }
-judging bs n g (judged.Refused q) r e f x h l = record { told = rw (e, f) (ap some (x .told)); within = rw f tt }
+judging bs n g (judged.Refused q) r e f x h l = record { told = rw (e, f) (ap some (x .told)); within = rw f tt; full = l }
 
 -- what the line reader answered, judged, is what the frame layer answers
 pub answered : (s : State) (w bs : List ℕ) (t : line-told.Told) (o : Outcome) → line-answers.Answers (line.read s w) (line-answers.answerOf bs t) → Judging bs (t .outcome) o
@@ -87,4 +88,5 @@ answered s w bs t o x y = record {
   data-within = y .within;
   count-within = x .count-within;
   clear = x .clear;
+  full = y .full;
 }

@@ -45,12 +45,13 @@ Within (given.Frame c n) = n ≤ maxData
 Within (given.Refused r) = Unit {0}
 
 -- The promise of a call: r tells what the definition x gives, and each count in it lies within the array.
--- Left to the program: the array's places beyond the bytes held and, where a frame is told, those outside its data.
+-- Left to the program: the array's places beyond the bytes held and, where a frame is told, those outside its data; it stays 255 long.
 pub record Answers (x : Scan State Outcome) (r : Answer) : Type 0 where
   pub told : seen r ≡ x
   pub data-within : Within (r .outcome)
   pub count-within : r .reading .count ≤ limit
   pub clear : Clear (r .reading .mode) (r .reading .count)
+  pub full : length (r .reading .bytes) ≡ limit
 
 -- the answer with the bytes that it lies apart from
 abbrev pub answerOf : List ℕ → Told → Answer

@@ -2,9 +2,11 @@
 use Prim.Native.Nat.{ℕ, _+_, _/_, _%_}
 use mathlib.Core.Path.{_≡_}
 use mathlib.Core.List.{List, [], _∷_}
+use lib.ListN.{length}
 use Rattle.line.specs.declared.Fault.{Fault}
 use Rattle.line.specs.declared.Fault.the-variants as fault
 use Rattle.line.specs.declared.Outcome.{Outcome as Got}
+use Rattle.line.specs.Reader.{limit}
 use Rattle.line.specs.Answers.{told as packetOf}
 use Rattle.frame.specs.declared.Refusal.{Refusal}
 use Rattle.frame.specs.declared.Refusal.the-variants as cause
@@ -29,6 +31,7 @@ outcomeOf (judged.Refused r) = given.Refused r
 pub record Judging (bs : List ℕ) (g : Got) (r : Outcome) : Type 0 where
   pub told : told r bs ≡ verdict (packetOf g bs)
   pub within : Within r
+  pub full : length bs ≡ limit
 
 -- `head_of`: the bytes before n data bytes
 abbrev pub header : ℕ → ℕ → List ℕ

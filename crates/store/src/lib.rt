@@ -1,8 +1,7 @@
 // Bytes stored in lent memory from a place on; what would run past its end is dropped.
 // The content after a call is the definition's: specs/Wrote.antt. It stands on nothing.
-ghost use Prim.Native.Nat.{_+_, _-_, _≤_};
 ghost use mathlib.Core.Path.{_≡_};
-ghost use lib.ListN.{length, replicate};
+ghost use lib.ListN.{replicate};
 ghost use lib.Seq.{sets};
 ghost use Rattle.store.specs.Wrote.{fitting};
 

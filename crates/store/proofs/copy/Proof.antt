@@ -1,14 +1,15 @@
+use Prim.Native.Nat.{_≤_, _+_, _-_}
 use mathlib.Core.Path.{_∙_}
-use Rattle.store.specs.WroteLaws.{none, then-one, kept, take-more, sets-fitting}
-use Rattle.store.specs.Wrote.{Wrote}
-use borrow.Author.Needs.{needs}
-use lib.ListN.{take}
 use native.Mathlib.Nat.{add-zero, le-antisymm}
 use native.Mathlib.Omega.{arith}
-use Prim.Native.Nat.{_≤_, _+_, _-_}
+use lib.ListN.{take}
+use borrow.Author.Needs.{needs}
+use Rattle.store.specs.Wrote.{Wrote}
+use Rattle.store.specs.WroteLaws.{none, then-one, kept, take-more, sets-fitting}
 use Rattle.store.proofs.copy.Statement.{statement}
 use Rattle.store.proofs.copy.Tie as tie
 
+-- The first i bytes are stored, and nothing else is; those that fit do all.
 abbrev Inv-loop : tie.InvT-loop
 Inv-loop to₀ start from n i₀ to i = (i ≤ n) × Wrote to₀ start (take i from) to (start + i)
 
@@ -37,13 +38,19 @@ loop-less : tie.Need-loop-less Inv-loop μ-loop
 loop-less c = omega arith
 
 loop-again : tie.Need-loop-again Inv-loop μ-loop
-loop-again c = (search needs, rw (take-more _ _ (shared-slice-read-to c)) (then-one _ _ (c .before .before .loop .inv .1)))
+loop-again c =
+    let a = c .before .before .before .before .before .before .args in
+    let l = c .before .before .loop in
+    (search needs, rw (take-more (a .from .now) (l .i) (omega arith)) (then-one _ _ (l .inv .1)))
 
 same-length : tie.Need-same-length Inv-loop μ-loop
 same-length c = kept (c .before .loop .inv .1)
 
 returns : tie.Need-returns Inv-loop μ-loop
-returns c = let a = c .before .before .before .before .before .args in c .before .loop .inv .1 .content ∙ rw (le-antisymm (c .before .loop .inv .0) (c .loop-test .left), c .before .before .fit .ensures) (sets-fitting (a .from .now) (a .to .now) (a .start))
+returns c =
+    let a = c .before .before .before .before .before .args in
+    let l = c .before .loop in
+    l .inv .1 .content ∙ rw (le-antisymm (l .inv .0) (c .loop-test .left), c .before .before .fit .ensures) (sets-fitting (a .from .now) (a .to .now) (a .start))
 
 pub copy-spec : {M : Type 1} → statement M
 copy-spec =

@@ -1,14 +1,15 @@
-use Rattle.store.specs.WroteLaws.{none, then-one, kept, replicate-more, sets-fitting-same}
-use Rattle.store.specs.Wrote.{Wrote}
-use borrow.Author.Needs.{needs}
-use lib.ListN.{replicate}
-use native.Mathlib.Nat.{add-zero, le-antisymm}
-use native.Mathlib.Omega.{arith}
 use Prim.Native.Nat.{_≤_, _+_, _-_}
 use mathlib.Core.Path.{_∙_}
+use native.Mathlib.Nat.{add-zero, le-antisymm}
+use native.Mathlib.Omega.{arith}
+use lib.ListN.{replicate}
+use borrow.Author.Needs.{needs}
+use Rattle.store.specs.Wrote.{Wrote}
+use Rattle.store.specs.WroteLaws.{none, then-one, kept, replicate-more, sets-fitting-same}
 use Rattle.store.proofs.fill.Statement.{statement}
 use Rattle.store.proofs.fill.Tie as tie
 
+-- i bytes are stored, and nothing else is; those that fit do all.
 abbrev Inv-loop : tie.InvT-loop
 Inv-loop to₀ start count value n i₀ to i = (i ≤ n) × Wrote to₀ start (replicate i value) to (start + i)
 
@@ -40,7 +41,10 @@ same-length : tie.Need-same-length Inv-loop μ-loop
 same-length c = kept (c .before .loop .inv .1)
 
 returns : tie.Need-returns Inv-loop μ-loop
-returns c = let a = c .before .before .before .before .args in c .before .loop .inv .1 .content ∙ rw (le-antisymm (c .before .loop .inv .0) (c .loop-test .left), c .before .before .fit .ensures) (sets-fitting-same (a .count) (a .value) (a .to .now) (a .start))
+returns c =
+    let a = c .before .before .before .before .args in
+    let l = c .before .loop in
+    l .inv .1 .content ∙ rw (le-antisymm (l .inv .0) (c .loop-test .left), c .before .before .fit .ensures) (sets-fitting-same (a .count) (a .value) (a .to .now) (a .start))
 
 pub fill-spec : {M : Type 1} → statement M
 fill-spec =

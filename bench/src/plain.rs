@@ -1,0 +1,235 @@
+//! A plain reader that takes one byte at a time, and the listing by it.
+//!
+//! It is the other side of the benchmark. Its array is cleared once, when
+//! the reader is made, and never between packets.
+
+use std::io::{self, BufWriter, ErrorKind, Read, Write};
+
+use crate::outcome::{Outcome, Refusal, END, ESC, ESC_END, ESC_ESC, FRAME_LEAST, PACKET_MOST};
+
+/// The size of the buffers on both sides of the listing.
+const BUFFER: usize = 64 * 1024;
+
+/// What the next byte means.
+#[derive(Clone, Copy)]
+enum Mode {
+    Taking,
+    Escaped,
+    Skipping(Refusal),
+}
+
+/// The reading state of one line.
+pub struct Reader {
+    held: [u8; PACKET_MOST],
+    count: usize,
+    mode: Mode,
+}
+
+impl Default for Reader {
+    fn default() -> Self {
+        Self::new()
+    }
+}
+
+impl Reader {
+    /// A reader between packets.
+    pub fn new() -> Self {
+        Reader {
+            held: [0; PACKET_MOST],
+            count: 0,
+            mode: Mode::Taking,
+        }
+    }
+
+    /// Takes one wire byte. An END that closes a piece gives its outcome.
+    #[inline]
+    pub fn push(&mut self, byte: u8) -> Option<Outcome> {
+        if byte == END {
+            return self.close();
+        }
+        match self.mode {
+            Mode::Taking if byte == ESC => self.mode = Mode::Escaped,
+            Mode::Taking => self.hold(byte),
+            Mode::Escaped => self.unescape(byte),
+            Mode::Skipping(_) => {}
+        }
+        None
+    }
+
+    fn unescape(&mut self, byte: u8) {
+        self.mode = Mode::Taking;
+        match byte {
+            ESC_END => self.hold(END),
+            ESC_ESC => self.hold(ESC),
+            _ => self.mode = Mode::Skipping(Refusal::WrongEscape),
+        }
+    }
+
+    #[inline]
+    fn hold(&mut self, byte: u8) {
+        if let Some(place) = self.held.get_mut(self.count) {
+            *place = byte;
+            self.count += 1;
+        } else {
+            self.mode = Mode::Skipping(Refusal::TooLong);
+        }
+    }
+
+    #[inline]
+    fn close(&mut self) -> Option<Outcome> {
+        let outcome = match self.mode {
+            Mode::Taking if self.count == 0 => None,
+            Mode::Taking => Some(judge(&self.held[..self.count])),
+            Mode::Escaped => Some(Outcome::Refused(Refusal::WrongEscape)),
+            Mode::Skipping(refusal) => Some(Outcome::Refused(refusal)),
+        };
+        self.count = 0;
+        self.mode = Mode::Taking;
+        outcome
+    }
+}
+
+#[inline]
+fn judge(packet: &[u8]) -> Outcome {
+    let refusal = match *packet {
+        _ if packet.len() < FRAME_LEAST => Refusal::Short,
+        [protocol, ..] if protocol != 0 => Refusal::Protocol,
+        [_, length, ..] if packet.len() != length as usize + 2 => Refusal::Length,
+        _ if packet.iter().fold(0, |sum, byte| sum ^ byte) != 0 => Refusal::Check,
+        _ => {
+            return Outcome::Frame {
+                command: u16::from(packet[2]) << 8 | u16::from(packet[3]),
+                data: packet.len() - FRAME_LEAST,
+            }
+        }
+    };
+    Outcome::Refused(refusal)
+}
+
+/// Lists a capture: a line for each outcome, then the bytes left.
+pub fn list(mut input: impl Read, output: impl Write) -> io::Result<()> {
+    let mut output = BufWriter::with_capacity(BUFFER, output);
+    let mut buffer = vec![0; BUFFER];
+    let mut reader = Reader::new();
+    let mut left = 0;
+    loop {
+        let count = match input.read(&mut buffer) {
+            Ok(0) => break,
+            Ok(count) => count,
+            Err(error) if error.kind() == ErrorKind::Interrupted => continue,
+            Err(error) => return Err(error),
+        };
+        list_part(&mut reader, &buffer[..count], &mut output)?;
+        left = left_behind(left, &buffer[..count]);
+    }
+    writeln!(output, "left {left}")?;
+    output.flush()
+}
+
+fn list_part(reader: &mut Reader, part: &[u8], output: &mut impl Write) -> io::Result<()> {
+    for &byte in part {
+        if let Some(outcome) = reader.push(byte) {
+            write_line(outcome, output)?;
+        }
+    }
+    Ok(())
+}
+
+/// The bytes since the last END, behind one more part.
+fn left_behind(left: u64, part: &[u8]) -> u64 {
+    match part.iter().rposition(|&byte| byte == END) {
+        Some(end) => (part.len() - end - 1) as u64,
+        None => left + part.len() as u64,
+    }
+}
+
+/// Writes the line of an outcome, byte by byte to keep formatting cheap.
+#[inline]
+fn write_line(outcome: Outcome, output: &mut impl Write) -> io::Result<()> {
+    match outcome {
+        Outcome::Frame { command, data } => write_frame(command, data as u8, output),
+        Outcome::Refused(refusal) => {
+            let mut line = *b"refused 0\n";
+            line[8] += refusal as u8;
+            output.write_all(&line)
+        }
+    }
+}
+
+fn write_frame(command: u16, data: u8, output: &mut impl Write) -> io::Result<()> {
+    let mut line = *b"frame 0000 data 000\n";
+    for (place, digit) in line[6..10].iter_mut().enumerate() {
+        *digit = b"0123456789ABCDEF"[usize::from(command >> (12 - 4 * place)) & 15];
+    }
+    let digits = [data / 100, data / 10 % 10, data % 10].map(|digit| b'0' + digit);
+    let shown = match data {
+        0..=9 => &digits[2..],
+        10..=99 => &digits[1..],
+        _ => &digits[..],
+    };
+    line[16..16 + shown.len()].copy_from_slice(shown);
+    line[16 + shown.len()] = b'\n';
+    output.write_all(&line[..17 + shown.len()])
+}
+
+#[cfg(test)]
+mod tests {
+    use super::*;
+    use crate::generate::rows::ROWS;
+    use crate::generate::{self, Kind};
+    use crate::paper;
+    use crate::random::Random;
+
+    /// A source that gives its bytes in parts of 1 to 7.
+    struct Parts<'a>(&'a [u8], Random);
+
+    impl Read for Parts<'_> {
+        fn read(&mut self, buffer: &mut [u8]) -> io::Result<usize> {
+            let count = self.1.between(1, 7).min(self.0.len()).min(buffer.len());
+            let (part, rest) = self.0.split_at(count);
+            buffer[..count].copy_from_slice(part);
+            self.0 = rest;
+            Ok(count)
+        }
+    }
+
+    fn listing(input: impl Read) -> String {
+        let mut text = Vec::new();
+        list(input, &mut text).unwrap();
+        String::from_utf8(text).unwrap()
+    }
+
+    #[test]
+    fn the_rows_of_the_paper() {
+        for row in &ROWS {
+            assert_eq!(listing(row.wire), row.told, "{}", row.name);
+        }
+    }
+
+    #[test]
+    fn the_same_as_the_paper_on_each_kind() {
+        for kind in Kind::ALL {
+            for index in 0..kind.systematic() + 500 {
+                let capture = generate::capture(kind, 11, index);
+                let expected = paper::render(&paper::read(&capture));
+                assert_eq!(listing(&capture[..]), expected, "{} {index}", kind.name());
+            }
+        }
+    }
+
+    #[test]
+    fn cutting_the_input_changes_nothing() {
+        for kind in Kind::ALL {
+            for index in 0..100 {
+                let capture = generate::capture(kind, 12, index);
+                let parts = Parts(&capture, Random::new(&[index as u64]));
+                assert_eq!(
+                    listing(parts),
+                    listing(&capture[..]),
+                    "{} {index}",
+                    kind.name()
+                );
+            }
+        }
+    }
+}

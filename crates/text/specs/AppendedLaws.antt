@@ -1,0 +1,35 @@
+-- A text that fits, one that does not, and two one behind the other.
+use Prim.Native.Nat.{ℕ, _+_, _≤_, _<_}
+use mathlib.Core.Path.{_≡_, refl, sym, _∙_}
+use mathlib.Core.List.{List, _++_}
+use native.Mathlib.Nat.{add-assoc}
+use native.Mathlib.Omega.{arith}
+use lib.ListN.{length, length-append}
+use lib.Seq.{sets, length-sets}
+use borrow.Author.Tests.{le-leb, lt-leb}
+use Rattle.store.specs.Wrote.{Wrote}
+use Rattle.store.specs.WroteLaws.{sets-append}
+use Rattle.text.specs.Appended.{appended, Leaves}
+
+pub appended-whole : (l : List ℕ) (at : ℕ) (text : List ℕ) → at + length text ≤ length l
+    → appended l at text ≡ record { bytes = sets l at text; place = at + length text }
+unfolding appended
+appended-whole l at text h = rw (le-leb (at + length text) (length l) h)
+
+pub appended-none : (l : List ℕ) (at : ℕ) (text : List ℕ) → length l < at + length text → appended l at text ≡ record { bytes = l; place = at }
+unfolding appended
+appended-none l at text h = rw (lt-leb (at + length text) (length l) h)
+
+-- bytes stored are a text appended, where they fit
+pub leaves-whole : {l m : List ℕ} {at next : ℕ} {text : List ℕ} → Wrote l at text m next → at + length text ≤ length l → Leaves (appended l at text) m next
+leaves-whole {l} {m} {at} {next} {text} w h = rw (appended-whole l at text h) (record { bytes = w .content; place = w .place })
+
+pub leaves-none : (l : List ℕ) (at : ℕ) (text : List ℕ) → length l < at + length text → Leaves (appended l at text) l at
+leaves-none l at text h = rw (appended-none l at text h) (record { bytes = refl; place = refl })
+
+pub appended-both : (l : List ℕ) (at : ℕ) (x y : List ℕ) → at + (length x + length y) ≤ length l
+    → appended (appended l at x .bytes) (appended l at x .place) y ≡ appended l at (x ++ y)
+appended-both l at x y h =
+    rw (appended-whole l at x (omega arith))
+    (appended-whole (sets l at x) (at + length x) y (simp length-sets (omega arith))
+    ∙ rw (sets-append, add-assoc at (length x) (length y), ← length-append x y) (sym (appended-whole l at (x ++ y) (simp length-append h))))
