@@ -1,0 +1,156 @@
+-- The node table (document 01, "What the commands do"): its layout, and what the commands and host calls do to it.
+use Prim.Native.Nat.{ℕ, zero, suc, _+_, _*_, _/_, _%_, _^_}
+use mathlib.Core.List.{List, [], _∷_, _++_}
+use mathlib.Core.Bool.{Bool, cond, _&&_}
+use lib.ListN.{length, take, drop, getD, replicate}
+use lib.Dec.{ltb, eqb}
+use lib.Seq.{sets}
+
+-- ---- layout
+
+-- the node table is 14,400 lent bytes: 200 records of 72
+abbrev pub nodeCount : ℕ
+nodeCount = 200
+
+abbrev pub recordSize : ℕ
+recordSize = 72
+
+abbrev pub tableSize : ℕ
+tableSize = nodeCount * recordSize
+
+-- a field of a record: where it stands, and how long it is
+pub record Field : Type 0 where
+  pub at : ℕ
+  pub size : ℕ
+
+-- in use, type 2, name 64, order 2, placement 1, variation 1, spare 1
+abbrev pub useField : Field
+useField = record { at = 0; size = 1 }
+
+abbrev pub typeField : Field
+typeField = record { at = 1; size = 2 }
+
+abbrev pub nameField : Field
+nameField = record { at = 3; size = 64 }
+
+abbrev pub orderField : Field
+orderField = record { at = 67; size = 2 }
+
+abbrev pub placementField : Field
+placementField = record { at = 69; size = 1 }
+
+abbrev pub variationField : Field
+variationField = record { at = 70; size = 1 }
+
+abbrev pub spareField : Field
+spareField = record { at = 71; size = 1 }
+
+-- order and placement, one behind the other
+abbrev pub orderAndPlacement : Field
+orderAndPlacement = record { at = 67; size = 3 }
+
+-- a field of record n, and the table with other bytes there
+abbrev pub fieldOf : List ℕ → ℕ → Field → List ℕ
+fieldOf t n f = take (f .size) (drop (n * recordSize + f .at) t)
+
+abbrev pub withField : List ℕ → ℕ → Field → List ℕ → List ℕ
+withField t n f vs = sets t (n * recordSize + f .at) vs
+
+-- which node numbers there are
+abbrev pub isNode : ℕ → Bool
+isNode n = ltb n nodeCount
+
+-- a node is in use exactly if the first byte of its record is 1
+unfoldable pub inUse : List ℕ → ℕ → Bool
+inUse t n = isNode n && eqb (getD t (n * recordSize + useField .at) 0) 1
+
+-- ---- node set commands
+
+-- the specification's status values
+abbrev pub accepted : ℕ
+accepted = 0
+
+abbrev pub rejected : ℕ
+rejected = 1
+
+abbrev pub invalidNode : ℕ
+invalidNode = 2
+
+-- what a node command answers, and the table that it leaves
+pub record Result : Type 0 where
+  pub status : ℕ
+  pub table : List ℕ
+
+-- a node above 199 or not in use gives status 2; otherwise only the named field is overwritten, status 0
+unfoldable pub setField : Field → List ℕ → ℕ → List ℕ → Result
+setField f t n vs =
+    cond (inUse t n)
+    (record { status = accepted; table = withField t n f vs })
+    (record { status = invalidNode; table = t })
+
+abbrev pub setName : List ℕ → ℕ → List ℕ → Result
+setName = setField nameField
+
+abbrev pub setOrderAndPlacement : List ℕ → ℕ → List ℕ → Result
+setOrderAndPlacement = setField orderAndPlacement
+
+-- the greatest variation
+abbrev pub maxVariation : ℕ
+maxVariation = 4
+
+-- a variation above 4 then gives status 1
+unfoldable pub setVariation : List ℕ → ℕ → ℕ → Result
+setVariation t n v =
+    cond (inUse t n && ltb maxVariation v)
+    (record { status = rejected; table = t })
+    (setField variationField t n (v ∷ []))
+
+-- ---- get node information
+
+-- frame 0210, 124 data bytes by section 8.3.3, with fields that the hub does not keep set to zero: NodeID, Order, Placement, Name,
+-- Velocity, NodeTypeSubType, ProductGroup, ProductType, NodeVariation, and from PowerMode on all that is not kept
+unfoldable pub information : List ℕ → ℕ → List ℕ
+information t n =
+    (n ∷ []) ++ fieldOf t n orderField ++ fieldOf t n placementField ++ fieldOf t n nameField
+    ++ (0 ∷ []) ++ fieldOf t n typeField ++ (0 ∷ 0 ∷ []) ++ fieldOf t n variationField ++ replicate 50 0
+
+-- ---- remove nodes, virgin state
+
+-- bit k is bit k mod 8, least significant first, of data byte k div 8 + 1
+unfoldable pub bit : List ℕ → ℕ → Bool
+bit bits k = eqb (getD bits (k / 8) 0 / 2 ^ (k % 8) % 2) 1
+
+-- nodes not in use are ignored
+abbrev pub isRemoved : List ℕ → List ℕ → ℕ → Bool
+isRemoved t bits k = bit bits k && inUse t k
+
+-- a removed record becomes 72 zero bytes
+abbrev pub emptyRecord : List ℕ
+emptyRecord = replicate recordSize 0
+
+abbrev pub withRecord : List ℕ → ℕ → List ℕ → List ℕ
+withRecord t n vs = sets t (n * recordSize) vs
+
+-- the nodes below n that the bits name are removed
+unfoldable pub removeBelow : List ℕ → ℕ → List ℕ → List ℕ
+removeBelow bits zero t = t
+removeBelow bits (suc n) t =
+    let u = removeBelow bits n t in
+    cond (isRemoved t bits n) (withRecord u n emptyRecord) u
+
+-- bits from 200 on are ignored
+abbrev pub remove : List ℕ → List ℕ → List ℕ
+remove bits t = removeBelow bits nodeCount t
+
+-- virgin state and start zero the table
+abbrev pub emptied : List ℕ → List ℕ
+emptied t = replicate (length t) 0
+
+-- ---- enrol
+
+-- in use, with its type, high byte first; other fields zero
+abbrev pub enrolledRecord : ℕ → List ℕ
+enrolledRecord type = (1 ∷ type / 256 ∷ type % 256 ∷ []) ++ replicate 69 0
+
+abbrev pub enrolled : List ℕ → ℕ → ℕ → List ℕ
+enrolled t n type = withRecord t n (enrolledRecord type)

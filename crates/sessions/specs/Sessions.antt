@@ -1,0 +1,149 @@
+-- The sessions (document 01, mode send and the host calls): who holds which motor.
+use Prim.Native.Nat.{ℕ, _+_, _*_}
+use mathlib.Core.List.{List, [], _∷_, map}
+use mathlib.Core.Bool.{Bool, true, false, cond, not, _&&_}
+use mathlib.Core.Option.{Option, none, some}
+use lib.ListN.{take, drop, set, getD, replicate}
+use lib.Dec.{leb, ltb, eqb}
+use Rattle.nodes.specs.Table.{inUse, isRemoved, nodeCount}
+use Rattle.sessions.specs.declared.Slot.{Slot}
+use Rattle.sessions.specs.Search.{any, first, member, below}
+
+-- ---- slots
+
+-- eight slots for all lines together
+abbrev pub slotCount : ℕ
+slotCount = 8
+
+-- mode send takes nodes 0 to 199
+abbrev pub targetCount : ℕ
+targetCount = 200
+
+-- a free slot holds nothing, so that a closed session leaves no node held
+abbrev pub closedSlot : Slot
+closedSlot = record { used = false; number = 0; line = 0; nodes = replicate targetCount false }
+
+abbrev pub isFree : Slot → Bool
+isFree s = not (s .used)
+
+-- an open session has a number, a line and nodes; a slot that is not used is ignored, whatever it holds
+abbrev pub isNumbered : ℕ → Slot → Bool
+isNumbered x s = s .used && eqb (s .number) x
+
+abbrev pub isOn : ℕ → Slot → Bool
+isOn l s = s .used && eqb (s .line) l
+
+abbrev pub holds : ℕ → Slot → Bool
+holds n s = s .used && getD (s .nodes) n false
+
+-- the sessions that pass a test are closed
+abbrev pub closeIf : (Slot → Bool) → Slot → Slot
+closeIf p s = cond (p s) closedSlot s
+
+abbrev pub close : (Slot → Bool) → List Slot → List Slot
+close p ss = map (closeIf p) ss
+
+-- virgin state and start close all
+abbrev pub closeAll : List Slot → List Slot
+closeAll = close (λ s. true)
+
+-- close a line: its sessions closed
+abbrev pub closeLine : ℕ → List Slot → List Slot
+closeLine l = close (isOn l)
+
+-- remove nodes: every session with a removed node closes
+unfoldable pub holdsRemoved : List ℕ → List ℕ → Slot → Bool
+holdsRemoved t bits s = any (λ k. holds k s && isRemoved t bits k) (below nodeCount)
+
+abbrev pub closeRemoved : List ℕ → List ℕ → List Slot → List Slot
+closeRemoved t bits = close (holdsRemoved t bits)
+
+-- ---- mode send (section 10.6)
+
+-- data are session 2, originator, priority, mode, parameter, count, 20 indices, lock, two level bytes, lock time
+pub record ModeSend : Type 0 where
+  pub session : ℕ
+  pub originator : ℕ
+  pub priority : ℕ
+  pub count : ℕ
+  pub indices : List ℕ
+  pub lock : ℕ
+
+-- later indices than the first count are ignored; mode, parameter, levels and lock time are free
+abbrev pub modeSendOf : List ℕ → ModeSend
+modeSendOf d = record {
+  session = getD d 0 0 * 256 + getD d 1 0;
+  originator = getD d 2 0;
+  priority = getD d 3 0;
+  count = getD d 6 0;
+  indices = take (getD d 6 0) (drop 7 d);
+  lock = getD d 27 0;
+}
+
+-- the specification's status values
+abbrev pub accepted : ℕ
+accepted = 0
+
+abbrev pub rejected : ℕ
+rejected = 1
+
+abbrev pub sessionInUse : ℕ
+sessionInUse = 3
+
+abbrev pub noFreeSlot : ℕ
+noFreeSlot = 4
+
+abbrev pub illegalParameter : ℕ
+illegalParameter = 5
+
+abbrev pub maxIndices : ℕ
+maxIndices = 20
+
+-- no index is above 199, not in use, or named twice; those in `seen` are named already
+unfoldable pub targetsLegal : List ℕ → List ℕ → List ℕ → Bool
+targetsLegal t seen [] = true
+targetsLegal t seen (n ∷ ns) = ltb n targetCount && (inUse t n && (not (member n seen) && targetsLegal t (n ∷ seen) ns))
+
+abbrev pub originators : List ℕ
+originators = 1 ∷ 2 ∷ 3 ∷ 5 ∷ 8 ∷ 9 ∷ 11 ∷ 12 ∷ 13 ∷ 255 ∷ []
+
+-- status 5 if count is not 1 to 20, for an index, priority above 7, lock above 1, or an originator that is not one of these
+unfoldable pub isLegal : List ℕ → ModeSend → Bool
+isLegal t r =
+    leb 1 (r .count) && (leb (r .count) maxIndices && (targetsLegal t [] (r .indices)
+    && (leb (r .priority) 7 && (leb (r .lock) 1 && member (r .originator) originators))))
+
+-- the nodes of a session, marked
+unfoldable pub marked : List Bool → List ℕ → List Bool
+marked ms [] = ms
+marked ms (n ∷ ns) = marked (set ms n true) ns
+
+abbrev pub sessionSlot : ℕ → ModeSend → Slot
+sessionSlot l r = record { used = true; number = r .session; line = l; nodes = marked (replicate targetCount false) (r .indices) }
+
+-- what a mode send answers, and the slots that it leaves
+pub record Result : Type 0 where
+  pub status : ℕ
+  pub slots : List Slot
+
+-- the first that applies: 5; 3 if the session number is open on any line; 4 if all slots are taken; 1 if a named node is in an open
+-- session, the same line's included; else 0, and the lowest free slot takes the session, its line and its nodes
+unfoldable pub modeSend : List Slot → List ℕ → ℕ → ModeSend → Result
+modeSend ss t l r =
+    cond (not (isLegal t r)) (record { status = illegalParameter; slots = ss })
+    (cond (any (isNumbered (r .session)) ss) (record { status = sessionInUse; slots = ss })
+    (cond (not (any isFree ss)) (record { status = noFreeSlot; slots = ss })
+    (cond (any (λ n. any (holds n) ss) (r .indices)) (record { status = rejected; slots = ss })
+    (record { status = accepted; slots = set ss (first isFree ss) (sessionSlot l r) }))))
+
+-- ---- finish a session
+
+-- closes it, in the lowest slot that has it, and tells its line; nothing where its number is not open
+pub record Finished : Type 0 where
+  pub line : ℕ
+  pub slots : List Slot
+
+unfoldable pub finish : List Slot → ℕ → Option Finished
+finish ss x =
+    let k = first (isNumbered x) ss in
+    cond (any (isNumbered x) ss) (some (record { line = getD ss k closedSlot .line; slots = set ss k closedSlot })) none
