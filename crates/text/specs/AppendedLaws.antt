@@ -2,14 +2,16 @@
 use Prim.Native.Nat.{ℕ, _+_, _≤_, _<_}
 use mathlib.Core.Path.{_≡_, refl, sym, _∙_}
 use mathlib.Core.List.{List, _++_}
+use mathlib.Core.Bool.{Bool, true, false, cond}
 use native.Mathlib.Nat.{add-assoc}
 use native.Mathlib.Omega.{arith}
 use lib.ListN.{length, length-append}
 use lib.Seq.{sets, length-sets}
-use borrow.Author.Tests.{le-leb, lt-leb}
+use lib.Dec.{leb}
+use borrow.Author.Tests.{leb-true, le-leb, lt-leb}
 use Rattle.store.specs.Wrote.{Wrote}
 use Rattle.store.specs.WroteLaws.{sets-append}
-use Rattle.text.specs.Appended.{appended, Leaves}
+use Rattle.text.specs.Appended.{Memory, appended, Leaves}
 
 pub appended-whole : (l : List ℕ) (at : ℕ) (text : List ℕ) → at + length text ≤ length l
     → appended l at text ≡ record { bytes = sets l at text; place = at + length text }
@@ -19,6 +21,16 @@ appended-whole l at text h = rw (le-leb (at + length text) (length l) h)
 pub appended-none : (l : List ℕ) (at : ℕ) (text : List ℕ) → length l < at + length text → appended l at text ≡ record { bytes = l; place = at }
 unfolding appended
 appended-none l at text h = rw (lt-leb (at + length text) (length l) h)
+
+-- the place behind what was appended lies within the memory
+pub appended-within : (l : List ℕ) (at : ℕ) (text : List ℕ) → at ≤ length l → appended l at text .place ≤ length l
+unfolding appended
+appended-within l at text h = go (leb (at + length text) (length l)) refl
+  where
+    go : (t : Bool) → leb (at + length text) (length l) ≡ t
+        → cond {A = Memory} t (record { bytes = sets l at text; place = at + length text }) (record { bytes = l; place = at }) .place ≤ length l
+    go true e = leb-true (at + length text) (length l) e
+    go false e = h
 
 -- bytes stored are a text appended, where they fit
 pub leaves-whole : {l m : List ℕ} {at next : ℕ} {text : List ℕ} → Wrote l at text m next → at + length text ≤ length l → Leaves (appended l at text) m next

@@ -40,6 +40,10 @@ refusedLine number = ascii "refused " ++ decimal number ++ ascii "\n"
 unfoldable pub leftLine : ℕ → List ℕ
 leftLine left = ascii "left " ++ decimal left ++ ascii "\n"
 
+-- a command's entry: the least and the greatest length of its data
+unfoldable pub entryLine : ℕ → ℕ → ℕ → List ℕ
+entryLine command least greatest = hex4 command ++ ascii " " ++ decimal least ++ ascii " " ++ decimal greatest ++ ascii "\n"
+
 -- no line of a number below 2 ^ 64 is longer
 abbrev pub LINE : ℕ
 LINE = 40

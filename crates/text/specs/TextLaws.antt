@@ -3,8 +3,8 @@ use Prim.Native.Nat.{ℕ, _+_, _^_, _≤_, _<_}
 use mathlib.Core.Path.{_≡_}
 use native.Mathlib.Omega.{arith}
 use lib.ListN.{length, length-append}
-use Rattle.text.specs.Text.{ascii, decimal, frameLine, refusedLine, leftLine, LINE}
-use Rattle.text.specs.DecimalLaws.{decimal-short}
+use Rattle.text.specs.Text.{ascii, decimal, frameLine, refusedLine, leftLine, entryLine, LINE}
+use Rattle.text.specs.DecimalLaws.{decimal-below, decimal-short}
 
 pub length-frameLine : (command len : ℕ) → length (frameLine command len) ≡ 17 + length (decimal len)
 unfolding frameLine ascii
@@ -18,6 +18,10 @@ pub length-leftLine : (left : ℕ) → length (leftLine left) ≡ 6 + length (de
 unfolding leftLine ascii
 length-leftLine left = simp length-append (omega arith)
 
+pub length-entryLine : (command least greatest : ℕ) → length (entryLine command least greatest) ≡ 7 + length (decimal least) + length (decimal greatest)
+unfolding entryLine ascii
+length-entryLine command least greatest = simp length-append (omega arith)
+
 pub frameLine-short : (command len : ℕ) → len < 2 ^ 64 → length (frameLine command len) ≤ LINE
 frameLine-short command len h = omega (arith, length-frameLine command len, decimal-short len h)
 
@@ -26,3 +30,12 @@ refusedLine-short number h = omega (arith, length-refusedLine number, decimal-sh
 
 pub leftLine-short : (left : ℕ) → left < 2 ^ 64 → length (leftLine left) ≤ LINE
 leftLine-short left h = omega (arith, length-leftLine left, decimal-short left h)
+
+pub entryLine-short : (command least greatest : ℕ) → least < 256 → greatest < 256 → length (entryLine command least greatest) ≤ LINE
+entryLine-short command least greatest l g =
+    omega (
+      arith,
+      length-entryLine command least greatest,
+      decimal-below 3 least (omega arith) (omega arith),
+      decimal-below 3 greatest (omega arith) (omega arith),
+    )

@@ -1,7 +1,7 @@
 -- The texts at some numbers.
 use mathlib.Core.Path.{_≡_, refl}
 use mathlib.Core.List.{[], _∷_}
-use Rattle.text.specs.Text.{ascii, digit, decimalIn, decimal, frameLine, refusedLine, leftLine}
+use Rattle.text.specs.Text.{ascii, digit, decimalIn, decimal, frameLine, refusedLine, leftLine, entryLine}
 
 line-end : ascii "\n" ≡ 10 ∷ []
 unfolding ascii
@@ -26,3 +26,11 @@ left-none = refl
 left-most : leftLine 18446744073709551615 ≡ ascii "left 18446744073709551615\n"
 unfolding ascii digit decimalIn decimal leftLine
 left-most = refl
+
+entry-none : entryLine 0x0001 0 0 ≡ ascii "0001 0 0\n"
+unfolding ascii digit decimalIn decimal entryLine
+entry-none = refl
+
+entry-any : entryLine 0x030A 0 250 ≡ ascii "030A 0 250\n"
+unfolding ascii digit decimalIn decimal entryLine
+entry-any = refl

@@ -6,7 +6,7 @@ ghost use mathlib.Core.Path.{_≡_};
 ghost use mathlib.Core.List.{_++_};
 ghost use lib.ListN.{length};
 ghost use Rattle.store.specs.Wrote.{Wrote};
-ghost use Rattle.text.specs.Text.{ascii, digit, decimal, hex4, frameLine, refusedLine, leftLine};
+ghost use Rattle.text.specs.Text.{ascii, digit, decimal, hex4, frameLine, refusedLine, leftLine, entryLine};
 ghost use Rattle.text.specs.Appended.{appended, Leaves};
 
 // No line is longer.
@@ -40,6 +40,25 @@ pub fn left_line(out: &mut [u8], at: usize, left: u64) -> usize
     ensures { λ r. ⌜ Leaves (appended (now (out .entry)) at (leftLine left)) (now (out .exit)) r ⌝ }
 {
     number_line(out, at, b"left ", left)
+}
+
+// "CCCC L G": a command, and the least and the greatest length of its data.
+pub fn entry_line(out: &mut [u8], at: usize, command: u16, least: u8, greatest: u8) -> usize
+    ensures { λ r. ⌜ Leaves (appended (now (out .entry)) at (entryLine command least greatest)) (now (out .exit)) r ⌝ }
+{
+    let low = least as u64;
+    let high = greatest as u64;
+    let low_count = width(low);
+    let high_count = width(high);
+    if room(out.len(), at) < 7 + low_count + high_count {
+        return at;
+    }
+    let gap = hex4(out, at, command);
+    let low_digits = put(out, gap, b" ");
+    let next_gap = decimal(out, low_digits, low_count, low);
+    let high_digits = put(out, next_gap, b" ");
+    let line_end = decimal(out, high_digits, high_count, high);
+    put(out, line_end, b"\n")
 }
 
 // A short word, a number and the line's end.

@@ -1,0 +1,98 @@
+-- What the directory's rule and its lookup come to.
+use Prim.Native.Nat.{ℕ, _≤_, _<_}
+use mathlib.Core.Path.{_≡_, refl, sym, _∙_}
+use mathlib.Core.Logic.{_↔_}
+use mathlib.Core.Bool.{Bool, true, false, cond, _&&_}
+use mathlib.Core.Option.{Option, none, some, Option·some-injective}
+use native.Mathlib.Omega.{arith}
+use lib.ListN.{length}
+use lib.Dec.{T, leb}
+use borrow.Author.Tests.{leb-true, le-leb}
+use Rattle.directory.specs.declared.Entry.{Entry}
+use Rattle.directory.specs.declared.Verdict.the-variants.{Unknown, WrongLength, Fits}
+use Rattle.directory.specs.Directory.{count, directory}
+use Rattle.directory.specs.Lookup.{find, inRange, verdictOf, verdict, Stands, Allowed}
+use Rattle.directory.specs.LookupLaws.{find-there, ascending-found, ascending-once}
+use Rattle.directory.specs.Rule.{ruled, Sound, Ascending}
+use Rattle.directory.specs.RuleLaws.{ruled-sound, ruled-ascending}
+
+pub directory-count : length directory ≡ count
+unfolding directory
+directory-count = refl
+
+-- more than a hundred entries
+pub directory-many : 100 < length directory
+directory-many = omega (arith, directory-count)
+
+-- ---- the rule, computed once, and carried to each entry
+
+directory-ruled : T (ruled 0 directory)
+unfolding directory ruled
+directory-ruled = tt
+
+pub directory-sound : (e : Entry) → Stands e → Sound e
+directory-sound e s = ruled-sound 0 directory directory-ruled (s .place) e (s .there)
+
+pub directory-ascending : Ascending directory
+directory-ascending = ruled-ascending 0 directory directory-ruled
+
+-- at most one entry has a number
+pub directory-once : (d e : Entry) (x : Stands d) (y : Stands e) → d .number ≡ e .number → x .place ≡ y .place
+directory-once d e x y same = ascending-once directory directory-ascending (x .place) (y .place) d e (x .there) (y .there) same
+
+-- ---- a command is found exactly if it stands in the directory, and what is found is its own entry
+
+pub found-exactly : (command : ℕ) (e : Entry) → (find command directory ≡ some e) ↔ (Stands e × (e .number ≡ command))
+found-exactly command e = (
+  λ h. let r = find-there command directory e h in (record { place = r .0; there = r .1 .0 }, r .1 .1),
+  λ s. rw (← s .1) (ascending-found directory directory-ascending (s .0 .place) e (s .0 .there)),
+)
+
+-- ---- verdicts
+
+pub verdict-found : (command len : ℕ) (e : Entry) → find command directory ≡ some e → verdict command len ≡ cond (inRange e len) Fits WrongLength
+unfolding verdict verdictOf
+verdict-found command len e h = rw h
+
+pub unknown-exactly : (command len : ℕ) → (verdict command len ≡ Unknown) ↔ ((e : Entry) → Stands e → e .number ≡ command → ⊥)
+unfolding verdict verdictOf
+unknown-exactly command len = (
+  λ u e s n. never (inRange e len) (sym (verdict-found command len e (found-exactly command e .1 (s, n))) ∙ u),
+  λ alone. go alone (find command directory) refl,
+)
+  where
+    never : (t : Bool) → cond t Fits WrongLength ≡ Unknown → ⊥
+    never true h = let z : _≡_ {A = ℕ} 0 1 = cc in omega arith
+    never false h = let z : _≡_ {A = ℕ} 0 1 = cc in omega arith
+
+    go : ((e : Entry) → Stands e → e .number ≡ command → ⊥) → (o : Option Entry) → find command directory ≡ o → verdictOf o len ≡ Unknown
+    go alone none h = refl
+    go alone (some e) h = let s = found-exactly command e .0 h in absurd (alone e (s .0) (s .1))
+
+pub fits-exactly : (command len : ℕ) → (verdict command len ≡ Fits) ↔ Allowed command len
+unfolding verdict verdictOf
+fits-exactly command len = (
+  λ h. go (find command directory) refl h,
+  λ a.
+      verdict-found command len (a .entry) (found-exactly command (a .entry) .1 (a .stands, a .number))
+      ∙ rw (le-leb (a .entry .least) len (a .least), le-leb len (a .entry .greatest) (a .greatest)),
+)
+  where
+    within : (e : Entry) (t u : Bool) → leb (e .least) len ≡ t → leb len (e .greatest) ≡ u → find command directory ≡ some e
+        → cond (t && u) Fits WrongLength ≡ Fits → Allowed command len
+    within e true true p q h f =
+        let s = found-exactly command e .0 h in
+        record { entry = e; stands = s .0; number = s .1; least = leb-true (e .least) len p; greatest = leb-true len (e .greatest) q }
+    within e true false p q h f = let z : _≡_ {A = ℕ} 0 1 = cc in absurd (omega arith)
+    within e false u p q h f = let z : _≡_ {A = ℕ} 0 1 = cc in absurd (omega arith)
+
+    go : (o : Option Entry) → find command directory ≡ o → verdictOf o len ≡ Fits → Allowed command len
+    go none h f = let z : _≡_ {A = ℕ} 0 1 = cc in absurd (omega arith)
+    go (some e) h f = within e (leb (e .least) len) (leb len (e .greatest)) refl refl h f
+
+-- data that fit have a length in the range of the entry found
+pub fits-range : (command len : ℕ) (e : Entry) → find command directory ≡ some e → verdict command len ≡ Fits → (e .least ≤ len) × (len ≤ e .greatest)
+fits-range command len e h f =
+    let a = fits-exactly command len .0 f in
+    let same : a .entry ≡ e = Option·some-injective (a .entry) e (sym (found-exactly command (a .entry) .1 (a .stands, a .number)) ∙ h) in
+    (rw same at (a .least), rw same at (a .greatest))
