@@ -1,3 +1,4 @@
 pub mod Search
 pub mod Sessions
 pub mod SessionLaws
+pub mod Holders

@@ -1,0 +1,12 @@
+pub mod Hub
+pub mod Refusals
+pub mod Guard
+pub mod Calls
+pub mod Logins
+pub mod Demand3
+pub mod Lengths
+pub mod Feeds
+pub mod Examples
+pub mod Demand3Example
+pub mod PasswordLaws
+pub mod OneHolder

@@ -1,0 +1,25 @@
+-- Comparing passwords is equality: no prefix and no single byte passes for the whole.
+use Prim.Native.Nat.{ℕ}
+use mathlib.Core.Path.{_≡_, refl, ap₂}
+use mathlib.Core.List.{List, [], _∷_}
+use mathlib.Core.Bool.{Bool, true, false, _&&_}
+use native.Mathlib.Omega.{arith}
+use lib.Dec.{eqb}
+use borrow.Author.Tests.{eqb-true, eq-eqb}
+use Rattle.hub.specs.Hub.{same}
+
+pub same-equal : (xs ys : List ℕ) → same xs ys ≡ true → xs ≡ ys
+unfolding same
+same-equal [] [] e = refl
+same-equal [] (y ∷ ys) e = let z : _≡_ {A = ℕ} 0 1 = cc in absurd (omega arith)
+same-equal (x ∷ xs) [] e = let z : _≡_ {A = ℕ} 0 1 = cc in absurd (omega arith)
+same-equal (x ∷ xs) (y ∷ ys) e = go (eqb x y) refl (same-equal xs ys) e
+  where
+    go : (b : Bool) → eqb x y ≡ b → (same xs ys ≡ true → xs ≡ ys) → b && same xs ys ≡ true → (x ∷ xs) ≡ (y ∷ ys)
+    go true p r q = ap₂ (λ (z : ℕ) (zs : List ℕ). z ∷ zs) (eqb-true x y p) (r q)
+    go false p r q = let z : _≡_ {A = ℕ} 0 1 = cc in absurd (omega arith)
+
+pub same-itself : (xs : List ℕ) → same xs xs ≡ true
+unfolding same
+same-itself [] = refl
+same-itself (x ∷ xs) = rw (eq-eqb x x refl) (same-itself xs)

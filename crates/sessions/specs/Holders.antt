@@ -1,0 +1,122 @@
+-- No node is ever in two open sessions: what no call makes worse.
+use Prim.Native.Nat.{ℕ, zero, suc, _+_, _≤_}
+use mathlib.Core.Path.{_≡_, refl, ap, _∙_}
+use mathlib.Core.List.{List, [], _∷_}
+use mathlib.Core.Bool.{Bool, true, false, cond, not}
+use mathlib.Core.Option.{Option, none, some}
+use native.Mathlib.Omega.{arith}
+use lib.ListN.{set, getD, replicate}
+use lib.Seq.{getD-set-other}
+use lib.Dec.{eqb}
+use borrow.Author.Tests.{eqb-true, eqb-false}
+use Rattle.sessions.specs.declared.Slot.{Slot}
+use Rattle.sessions.specs.Search.{any, first, member}
+use Rattle.sessions.specs.Sessions.{targetCount, closedSlot, isFree, isNumbered, holds, close, ModeSend, isLegal, marked, sessionSlot, Result, modeSend, Finished, finish}
+
+-- one, if a test holds
+abbrev pub count : Bool → ℕ
+count b = cond b 1 0
+
+-- in how many open sessions a node is
+unfoldable pub holders : ℕ → List Slot → ℕ
+holders n [] = 0
+holders n (s ∷ ss) = count (holds n s) + holders n ss
+
+-- a slot set anew adds at most its own
+pub set-holders : (n : ℕ) (ss : List Slot) (k : ℕ) (s : Slot) → holders n (set ss k s) ≤ count (holds n s) + holders n ss
+unfolding holders
+set-holders n [] k s = omega arith
+set-holders n (x ∷ ss) zero s = omega arith
+set-holders n (x ∷ ss) (suc k) s = omega (arith, set-holders n ss k s)
+
+-- closing adds nothing
+pub close-holders : (n : ℕ) (p : Slot → Bool) (ss : List Slot) → holders n (close p ss) ≤ holders n ss
+unfolding holders
+close-holders n p [] = omega arith
+close-holders n p (s ∷ ss) = omega (arith, one (p s), close-holders n p ss)
+  where
+    one : (b : Bool) → count (holds n (cond b closedSlot s)) ≤ count (holds n s)
+    one true = omega arith
+    one false = omega arith
+
+-- a node that no session holds has no holder
+none-holds : (n : ℕ) (ss : List Slot) → any (holds n) ss ≡ false → holders n ss ≡ 0
+unfolding holders any
+none-holds n [] e = refl
+none-holds n (s ∷ ss) e = go (holds n s) (none-holds n ss) e
+  where
+    go : (b : Bool) → (any (holds n) ss ≡ false → holders n ss ≡ 0) → cond b true (any (holds n) ss) ≡ false → count b + holders n ss ≡ 0
+    go true r e = let z : _≡_ {A = ℕ} 0 1 = cc in absurd (omega arith)
+    go false r e = omega (arith, r e)
+
+-- a node marked was marked before or is among the indices
+marked-member : (n : ℕ) (ns : List ℕ) (ms : List Bool) → member n ns ≡ false → getD (marked ms ns) n false ≡ getD ms n false
+unfolding marked any
+marked-member n [] ms e = refl
+marked-member n (m ∷ ns) ms e = go (eqb n m) refl (marked-member n ns (set ms m true)) e
+  where
+    go : (b : Bool) → eqb n m ≡ b → (member n ns ≡ false → getD (marked (set ms m true) ns) n false ≡ getD (set ms m true) n false)
+        → cond b true (member n ns) ≡ false → getD (marked (set ms m true) ns) n false ≡ getD ms n false
+    go true x r e = let z : _≡_ {A = ℕ} 0 1 = cc in absurd (omega arith)
+    go false x r e = r e ∙ getD-set-other ms m n true false (λ y. eqb-false n m x y)
+
+unmarked : (k n : ℕ) → getD (replicate k false) n false ≡ false
+unmarked zero n = refl
+unmarked (suc k) zero = refl
+unmarked (suc k) (suc n) = unmarked k n
+
+-- a node that is not among the indices is not held by the new session
+not-held : (n l : ℕ) (r : ModeSend) → member n (r .indices) ≡ false → holds n (sessionSlot l r) ≡ false
+not-held n l r e = marked-member n (r .indices) (replicate targetCount false) e ∙ unmarked targetCount n
+
+-- a test that fails for a whole list fails for each of its members
+fails-each : (p : ℕ → Bool) (ns : List ℕ) (n : ℕ) → any p ns ≡ false → member n ns ≡ true → p n ≡ false
+unfolding any
+fails-each p [] n e x = let z : _≡_ {A = ℕ} 0 1 = cc in absurd (omega arith)
+fails-each p (m ∷ ns) n e x = go (p m) (eqb n m) refl refl (fails-each p ns n) e x
+  where
+    go : (a b : Bool) → p m ≡ a → eqb n m ≡ b → (any p ns ≡ false → member n ns ≡ true → p n ≡ false)
+        → cond a true (any p ns) ≡ false → cond b true (member n ns) ≡ true → p n ≡ false
+    go true b u v r e x = let z : _≡_ {A = ℕ} 0 1 = cc in absurd (omega arith)
+    go false true u v r e x = ap p (eqb-true n m v) ∙ u
+    go false false u v r e x = r e x
+
+-- mode send gives a node a holder only if it had none
+pub modeSend-holders : (n : ℕ) (ss : List Slot) (t : List ℕ) (l : ℕ) (r : ModeSend) → holders n ss ≤ 1 → holders n (modeSend ss t l r .slots) ≤ 1
+unfolding modeSend
+modeSend-holders n ss t l r h = go (not (isLegal t r)) (any (isNumbered (r .session)) ss) (not (any isFree ss)) (any (λ n. any (holds n) ss) (r .indices)) refl
+  where
+    taken : (b : Bool) → member n (r .indices) ≡ b → any (λ n. any (holds n) ss) (r .indices) ≡ false → holders n (set ss (first isFree ss) (sessionSlot l r)) ≤ 1
+    taken true x e =
+        let z = none-holds n ss (fails-each (λ n. any (holds n) ss) (r .indices) n e x) in
+        omega (arith, set-holders n ss (first isFree ss) (sessionSlot l r), at-most (holds n (sessionSlot l r)))
+      where
+        at-most : (b : Bool) → count b ≤ 1
+        at-most true = omega arith
+        at-most false = omega arith
+    taken false x e = omega (arith, set-holders n ss (first isFree ss) (sessionSlot l r), ap count (not-held n l r x))
+
+    go : (a b c d : Bool) → any (λ n. any (holds n) ss) (r .indices) ≡ d
+        → holders n (cond {A = Result} a (record { status = 5; slots = ss }) (cond b (record { status = 3; slots = ss }) (cond c (record { status = 4; slots = ss })
+        (cond d (record { status = 1; slots = ss }) (record { status = 0; slots = set ss (first isFree ss) (sessionSlot l r) })))) .slots) ≤ 1
+    go true b c d e = h
+    go false true c d e = h
+    go false false true d e = h
+    go false false false true e = h
+    go false false false false e = taken (member n (r .indices)) refl e
+
+-- the slots that a finish leaves
+abbrev pub leftBy : Option Finished → List Slot → List Slot
+leftBy none ss = ss
+leftBy (some f) ss = f .slots
+
+pub finish-holders : (n : ℕ) (ss : List Slot) (x : ℕ) → holders n (leftBy (finish ss x) ss) ≤ holders n ss
+unfolding finish
+finish-holders n ss x = go (any (isNumbered x) ss)
+  where
+    k : ℕ
+    k = first (isNumbered x) ss
+
+    go : (b : Bool) → holders n (leftBy (cond b (some (record { line = getD ss k closedSlot .line; slots = set ss k closedSlot })) none) ss) ≤ holders n ss
+    go true = omega (arith, set-holders n ss k closedSlot)
+    go false = omega arith
