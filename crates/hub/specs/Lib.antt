@@ -10,3 +10,4 @@ pub mod Examples
 pub mod Demand3Example
 pub mod PasswordLaws
 pub mod OneHolder
+pub mod Replies
