@@ -1,9 +1,10 @@
--- Document 01's replies and limits that are not marked P: the right password, a mode send and its finish; node 199 and 200; count 0, 1, 20, 21.
+-- Document 01's replies and limits that are not marked P: the right password, a mode send and its finish; node 199 and 200; count 0, 1, 20, 21;
+-- and the order of judging an outcome.
 use Prim.Native.Nat.{ℕ, _-_}
 use mathlib.Core.Path.{_≡_, refl}
 use mathlib.Core.List.{List, [], _∷_, _++_, map}
 use lib.ListN.{length, replicate}
-use Rattle.frame.specs.Frame.{frame, wire, escape, framed, body}
+use Rattle.frame.specs.Frame.{frame, refused, wire, escape, framed, body}
 use Rattle.frame.specs.Xor as xor
 use Rattle.directory.specs.Directory.{directory}
 use Rattle.directory.specs.Lookup as lookup
@@ -48,3 +49,10 @@ limits : replyTo 0 (199 ∷ []) ∷ replyTo 1 (200 ∷ []) ∷ replyTo 20 (searc
     ≡ map (λ (s : ℕ). wire 0x0321 (0x01 ∷ 0x02 ∷ s ∷ [])) (5 ∷ 5 ∷ 0 ∷ 5 ∷ [])
 unfolding windows loggedIn modeSendOf serve request enter same rules.modeSend sessions.modeSend sessions.isLegal sessions.targetsLegal sessions.marked search.any search.first search.below table.inUse lookup.verdict lookup.verdictOf lookup.find directory wire escape framed body xor.xorAll xor._⊕_
 limits = refl
+
+-- the order of judging: a refused packet, an unknown command, a wrong length, no login, a command that is not served
+errors : serve firstHub windows 2 (refused 6) .reply ∷ serve firstHub windows 2 (frame 0x020A []) .reply ∷ serve firstHub windows 2 (frame 0x0200 []) .reply
+    ∷ serve firstHub windows 2 (frame 0x0200 (5 ∷ [])) .reply ∷ serve loggedIn windows 2 (frame 0x0008 []) .reply ∷ []
+    ≡ map (λ (e : ℕ). wire 0x0000 (e ∷ [])) (2 ∷ 1 ∷ 2 ∷ 12 ∷ 1 ∷ [])
+unfolding windows loggedIn serve request enter same lookup.verdict lookup.verdictOf lookup.find directory wire escape framed body xor.xorAll xor._⊕_
+errors = refl
