@@ -1,10 +1,10 @@
--- Document 01's replies and limits that are not marked P: the right password, a mode send and its finish; node 199 and 200; count 0, 1, 20, 21;
--- and the order of judging an outcome.
+-- Document 01's replies and limits that are not marked P, the order of judging an outcome, and what each command leaves, computed.
 use Prim.Native.Nat.{ℕ, _-_}
 use mathlib.Core.Path.{_≡_, refl}
 use mathlib.Core.List.{List, [], _∷_, _++_, map}
 use lib.ListN.{length, replicate}
 use Rattle.frame.specs.Frame.{frame, refused, wire, escape, framed, body}
+use Rattle.frame.specs.Reading.{emptied}
 use Rattle.frame.specs.Xor as xor
 use Rattle.directory.specs.Directory.{directory}
 use Rattle.directory.specs.Lookup as lookup
@@ -56,3 +56,39 @@ errors : serve firstHub windows 2 (refused 6) .reply ∷ serve firstHub windows 
     ≡ map (λ (e : ℕ). wire 0x0000 (e ∷ [])) (2 ∷ 1 ∷ 2 ∷ 12 ∷ 1 ∷ [])
 unfolding windows loggedIn serve request enter same lookup.verdict lookup.verdictOf lookup.find directory wire escape framed body xor.xorAll xor._⊕_
 errors = refl
+
+-- password change: the last 32 bytes become the password, or nothing changes
+changed : serve loggedIn windows 2 (frame 0x3002 (replicate 32 0 ++ replicate 32 8)) .hub .password ∷ serve loggedIn windows 2 (frame 0x3002 (replicate 32 8 ++ replicate 32 0)) .hub .password ∷ []
+    ≡ replicate 32 8 ∷ replicate 32 0 ∷ []
+unfolding windows loggedIn serve request enter rules.change same lookup.verdict lookup.verdictOf lookup.find directory
+changed = refl
+
+change-replies : serve loggedIn windows 2 (frame 0x3002 (replicate 32 0 ++ replicate 32 8)) .reply ∷ serve loggedIn windows 2 (frame 0x3002 (replicate 32 8 ++ replicate 32 0)) .reply ∷ []
+    ≡ wire 0x3003 (0 ∷ []) ∷ wire 0x3003 (1 ∷ []) ∷ []
+unfolding windows loggedIn serve request enter rules.change same lookup.verdict lookup.verdictOf lookup.find directory
+change-replies = refl
+
+-- get node information: 0201, and 0210 behind it where the node is in use
+got : serve loggedIn windows 2 (frame 0x0200 (199 ∷ [])) .reply ∷ serve loggedIn windows 2 (frame 0x0200 (200 ∷ [])) .reply ∷ []
+    ≡ (wire 0x0201 (0 ∷ 199 ∷ []) ++ wire 0x0210 (table.information windows 199)) ∷ wire 0x0201 (2 ∷ 200 ∷ []) ∷ []
+unfolding windows loggedIn serve request enter same rules.getNode table.inUse lookup.verdict lookup.verdictOf lookup.find directory
+got = refl
+
+-- line 2 has a session with node 199
+unfoldable moving : Hub
+moving = serve loggedIn windows 2 (frame 0x0320 (modeSendOf 1 (199 ∷ []))) .hub
+
+-- virgin state zeroes the table and closes the session; login and password stay
+virgin : serve moving windows 2 (frame 0x0108 []) ≡ record { hub = loggedIn; table = replicate table.tableSize 0; reply = wire 0x0109 [] }
+unfolding windows loggedIn modeSendOf moving serve request enter same rules.modeSend rules.virginState sessions.modeSend sessions.isLegal sessions.targetsLegal sessions.marked search.any search.first table.inUse lookup.verdict lookup.verdictOf lookup.find directory
+virgin = refl
+
+-- removing node 199 closes the session, removing node 198 does not
+removed : serve moving windows 2 (frame 0x0106 (replicate 24 0 ++ (128 ∷ 0 ∷ []))) .hub ∷ serve moving windows 2 (frame 0x0106 (replicate 24 0 ++ (64 ∷ 0 ∷ []))) .hub ∷ [] ≡ loggedIn ∷ moving ∷ []
+unfolding windows loggedIn modeSendOf moving serve request enter same rules.modeSend rules.removeNodes sessions.modeSend sessions.isLegal sessions.targetsLegal sessions.marked sessions.holdsRemoved search.any search.first search.below table.inUse table.bit lookup.verdict lookup.verdictOf lookup.find directory
+removed = refl
+
+-- closing line 2 takes its login and closes its session; closing line 1 does neither; there is no line 4
+closed : rules.close moving emptied 2 .hub ∷ rules.close moving emptied 1 .hub ∷ rules.close moving emptied 4 .hub ∷ [] ≡ firstHub ∷ moving ∷ moving ∷ []
+unfolding windows loggedIn modeSendOf moving serve request enter same rules.modeSend sessions.modeSend sessions.isLegal sessions.targetsLegal sessions.marked search.any search.first table.inUse lookup.verdict lookup.verdictOf lookup.find directory
+closed = refl

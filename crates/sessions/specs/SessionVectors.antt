@@ -2,11 +2,12 @@
 use Prim.Native.Nat.{ℕ}
 use mathlib.Core.Path.{_≡_, refl}
 use mathlib.Core.List.{List, [], _∷_}
+use mathlib.Core.Option.{Option, none, some}
 use lib.ListN.{length, replicate}
 use Rattle.nodes.specs.Table.{tableSize, inUse}
 use Rattle.sessions.specs.declared.Slot.{Slot}
 use Rattle.sessions.specs.Search.{any, first}
-use Rattle.sessions.specs.Sessions.{slotCount, closedSlot, ModeSend, targetsLegal, isLegal, marked, sessionSlot, modeSend}
+use Rattle.sessions.specs.Sessions.{slotCount, closedSlot, ModeSend, targetsLegal, isLegal, marked, sessionSlot, modeSend, Finished, finish}
 
 unfoldable nodes : List ℕ
 nodes = replicate tableSize 1
@@ -31,3 +32,11 @@ statuses : status busy (request 2 (7 ∷ 7 ∷ [])) ∷ status busy (request 1 (
     ≡ 5 ∷ 3 ∷ 4 ∷ 1 ∷ 0 ∷ []
 unfolding nodes request busy status modeSend isLegal targetsLegal inUse any first marked
 statuses = refl
+
+-- two slots with the same number: finish closes the lowest, and tells its line
+unfoldable slot : ℕ → ℕ → Slot
+slot l x = sessionSlot l (request x (199 ∷ []))
+
+finished : finish (closedSlot ∷ slot 3 1 ∷ slot 2 1 ∷ []) 1 ∷ finish (slot 3 1 ∷ []) 2 ∷ [] ≡ some (record { line = 3; slots = closedSlot ∷ closedSlot ∷ slot 2 1 ∷ [] }) ∷ none ∷ []
+unfolding request slot finish any first marked
+finished = refl
