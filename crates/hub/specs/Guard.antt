@@ -8,14 +8,13 @@ use mathlib.Core.Option.{none, some}
 use lib.ListN.{length}
 use lib.Dec.{eqb}
 use Rattle.frame.specs.Frame.{Outcome, frame, refused}
-use Rattle.directory.specs.declared.Verdict.{Verdict}
-use Rattle.directory.specs.declared.Verdict.the-variants as verdicts
 use Rattle.directory.specs.Lookup as directory
 use Rattle.feeds.specs.System as feeds
 use Rattle.feeds.specs.SystemLaws.{Fed, barred, done, fed}
 use Rattle.hub.specs.declared.Hub.{Hub}
 use Rattle.hub.specs.Calls.{World, Call, start, enrol, close, finish, feed, after, afterAll, Unprivileged}
-use Rattle.hub.specs.Hub.{Reply, failure, byVerdict, unknownCommand, frameError, notLoggedIn, Password, same, enter, reply, request, isLoggedIn, serve, hub}
+use Rattle.hub.specs.Hub.{Reply, failure, unknownCommand, frameError, notLoggedIn, Password, same, enter, reply, request, isLoggedIn, serve, hub}
+use Rattle.hub.specs.Cases.{either, each-verdict}
 
 -- what an outcome on a line that is not logged in leaves
 pub record Guarded (h : Hub) (t : List ℕ) (r : Reply) : Type 0 where
@@ -29,25 +28,15 @@ failure-guarded h t e = record { table = refl; password = refl; sessions = refl 
 -- password enter changes a login at the most
 enter-guarded : (h : Hub) (t : List ℕ) (l : ℕ) (d : List ℕ) → Guarded h t (reply (enter h l d .hub) t 0x3001 (enter h l d .status ∷ []))
 unfolding enter
-enter-guarded h t l d = either (same d (h .password)) _ _ (record { table = refl; password = refl; sessions = refl }) (record { table = refl; password = refl; sessions = refl })
-  where
-    answered : Password → Reply
-    answered p = reply (p .hub) t 0x3001 (p .status ∷ [])
-
-    either : (b : Bool) (x y : Password) → Guarded h t (answered x) → Guarded h t (answered y) → Guarded h t (answered (cond b x y))
-    either true x y p q = p
-    either false x y p q = q
-
-verdict-guarded : (h : Hub) (t : List ℕ) (v : Verdict) (a b x : Reply) → Guarded h t a → Guarded h t b → Guarded h t x → Guarded h t (byVerdict v a b x)
-verdict-guarded h t verdicts.Unknown a b x p q r = p
-verdict-guarded h t verdicts.WrongLength a b x p q r = q
-verdict-guarded h t verdicts.Fits a b x p q r = r
+enter-guarded h t l d =
+    either (λ (p : Password). Guarded h t (reply (p .hub) t 0x3001 (p .status ∷ []))) (same d (h .password)) _ _
+    (record { table = refl; password = refl; sessions = refl }) (record { table = refl; password = refl; sessions = refl })
 
 pub serve-guarded : (h : Hub) (t : List ℕ) (l : ℕ) (o : Outcome) → isLoggedIn h l ≡ false → Guarded h t (serve h t l o)
 unfolding serve request
 serve-guarded h t l (refused n) e = failure-guarded h t frameError
 serve-guarded h t l (frame c d) e =
-    verdict-guarded h t (directory.verdict c (length d)) _ _ _ (failure-guarded h t unknownCommand) (failure-guarded h t frameError)
+    each-verdict (Guarded h t) (directory.verdict c (length d)) _ _ _ (failure-guarded h t unknownCommand) (failure-guarded h t frameError)
     (rw e (go (eqb c 0x3000) refl))
   where
     go : (b : Bool) → eqb c 0x3000 ≡ b → Guarded h t (cond b (request h t l c d) (failure h t notLoggedIn))

@@ -1,4 +1,5 @@
 pub mod Hub
+pub mod Cases
 pub mod Refusals
 pub mod Guard
 pub mod Calls

@@ -1,12 +1,12 @@
 -- Demand 2, over whole lists of calls: a line is logged in exactly if it gave the right password after the last start and the last close
 -- of that line, or was logged in before the list and neither came.
-use Prim.Native.Nat.{ℕ, zero, suc, _<_}
+use Prim.Native.Nat.{ℕ, _<_}
 use mathlib.Core.Path.{_≡_, refl, sym, ap, _∙_}
 use mathlib.Core.List.{List, [], _∷_}
 use mathlib.Core.Bool.{Bool, true, false, cond, not, _&&_, _||_}
 use mathlib.Core.Option.{Option, none, some}
 use native.Mathlib.Omega.{arith}
-use lib.ListN.{length, take, drop, set, getD, replicate, length-set}
+use lib.ListN.{length, take, set, getD, length-set, getD-replicate}
 use lib.Seq.{getD-set-same, getD-set-other}
 use lib.Dec.{leb, ltb, eqb}
 use borrow.Author.Tests.{eqb-true, eqb-false, ne-eqb, ltb-false, leb-true, le-leb}
@@ -15,7 +15,6 @@ use Rattle.frame.specs.Reading.{emptied}
 use Rattle.frame.specs.Writing.{minRoom}
 use Rattle.nodes.specs.Table as table
 use Rattle.sessions.specs.Sessions as sessions
-use Rattle.directory.specs.declared.Verdict.{Verdict}
 use Rattle.directory.specs.declared.Verdict.the-variants as verdicts
 use Rattle.directory.specs.Directory.{directory}
 use Rattle.directory.specs.Lookup as lookup
@@ -24,6 +23,7 @@ use Rattle.feeds.specs.Marks.{outcomeOf}
 use Rattle.feeds.specs.SystemLaws.{Fed, barred, done, fed}
 use Rattle.hub.specs.declared.Hub.{Hub}
 use Rattle.hub.specs.Hub as rules
+use Rattle.hub.specs.Cases.{either, each-verdict}
 use Rattle.hub.specs.Calls.{World, Call, start, enrol, close, finish, feed, after, afterAll, isPassword, unlessRefused, loggedBy, loggedByAll}
 
 -- ---- serving an outcome
@@ -31,38 +31,23 @@ use Rattle.hub.specs.Calls.{World, Call, start, enrol, close, finish, fe
 abbrev Kept : Hub → rules.Reply → Type 0
 Kept h r = r .hub .logins ≡ h .logins
 
-picks : (h : Hub) (b : Bool) (x y : rules.Reply) → Kept h x → Kept h y → Kept h (cond b x y)
-picks h true x y p q = p
-picks h false x y p q = q
-
 change-kept : (h : Hub) (d : List ℕ) → rules.change h d .hub .logins ≡ h .logins
 unfolding rules.change
-change-kept h d = go (rules.same (take rules.passwordSize d) (h .password))
-  where
-    go : (b : Bool) → cond {A = rules.Password} b
-        (record { status = rules.correct; hub = record { password = drop rules.passwordSize d; logins = h .logins; slots = h .slots } })
-        (record { status = rules.incorrect; hub = h }) .hub .logins ≡ h .logins
-    go true = refl
-    go false = refl
+change-kept h d = either (λ (p : rules.Password). p .hub .logins ≡ h .logins) (rules.same (take rules.passwordSize d) (h .password)) _ _ refl refl
 
 -- every request but password enter leaves the logins
 request-kept : (h : Hub) (t : List ℕ) (l c : ℕ) (d : List ℕ) → eqb c 0x3000 ≡ false → Kept h (rules.request h t l c d)
 unfolding rules.request rules.getNode rules.removeNodes rules.virginState rules.modeSend
 request-kept h t l c d e =
     rw e
-    (picks h (eqb c 0x3002) _ _ (change-kept h d)
-    (picks h (eqb c 0x0200) _ _ (picks h (table.inUse t (getD d 0 0)) _ _ refl refl)
-    (picks h (eqb c 0x0206) _ _ refl
-    (picks h (eqb c 0x0208) _ _ refl
-    (picks h (eqb c 0x020D) _ _ refl
-    (picks h (eqb c 0x0106) _ _ refl
-    (picks h (eqb c 0x0108) _ _ refl
-    (picks h (eqb c 0x0320) _ _ refl refl))))))))
-
-verdict-kept : (h : Hub) (v : Verdict) (a b x : rules.Reply) → Kept h a → Kept h b → Kept h x → Kept h (rules.byVerdict v a b x)
-verdict-kept h verdicts.Unknown a b x p q r = p
-verdict-kept h verdicts.WrongLength a b x p q r = q
-verdict-kept h verdicts.Fits a b x p q r = r
+    (either (Kept h) (eqb c 0x3002) _ _ (change-kept h d)
+    (either (Kept h) (eqb c 0x0200) _ _ (either (Kept h) (table.inUse t (getD d 0 0)) _ _ refl refl)
+    (either (Kept h) (eqb c 0x0206) _ _ refl
+    (either (Kept h) (eqb c 0x0208) _ _ refl
+    (either (Kept h) (eqb c 0x020D) _ _ refl
+    (either (Kept h) (eqb c 0x0106) _ _ refl
+    (either (Kept h) (eqb c 0x0108) _ _ refl
+    (either (Kept h) (eqb c 0x0320) _ _ refl refl))))))))
 
 -- password enter is known with 32 data bytes
 enter-verdict : (n : ℕ) → lookup.verdict 0x3000 n ≡ cond (leb 32 n && leb n 32) verdicts.Fits verdicts.WrongLength
@@ -115,7 +100,7 @@ serve-logins h t l (frame c d) = go (eqb c 0x3000) refl
     go : (b : Bool) → eqb c 0x3000 ≡ b
         → rules.serve h t l (frame c d) .hub .logins ≡ cond (b && (eqb (length d) rules.passwordSize && rules.same d (h .password))) (set (h .logins) l true) (h .logins)
     go true e = rw (eqb-true c 0x3000 e) (enter-logins h t l d)
-    go false e = verdict-kept h (lookup.verdict c (length d)) _ _ _ refl refl (picks h (rules.mayAsk h l c) _ _ (request-kept h t l c d e) refl)
+    go false e = each-verdict (Kept h) (lookup.verdict c (length d)) _ _ _ refl refl (either (Kept h) (rules.mayAsk h l c) _ _ (request-kept h t l c d e) refl)
 
 -- ---- one feed
 
@@ -140,12 +125,6 @@ set-logged ls k l v h = go (eqb k l) refl
     go true e = ap (λ (n : ℕ). getD (set ls n v) l false) (eqb-true k l e) ∙ getD-set-same ls l v false h
     go false e = getD-set-other ls k l v false (λ x. eqb-false k l e (sym x))
 
--- nobody is logged in on four lines
-out : (n l : ℕ) → getD (replicate n false) l false ≡ false
-out zero l = refl
-out (suc n) zero = refl
-out (suc n) (suc l) = out n l
-
 -- there are four lines
 abbrev Four : World → Type 0
 Four w = length (w .hub .logins) ≡ rules.lineCount
@@ -156,7 +135,7 @@ unfolding after loggedBy
 call-logged l w (start p) four h = go (rules.startRefusal (w .table) p)
   where
     go : (o : Option ℕ) → rules.isLoggedIn (rules.startBy o (w .hub) (w .table) p .hub) l ≡ unlessRefused o (rules.isLoggedIn (w .hub) l)
-    go none = out rules.lineCount l
+    go none = getD-replicate rules.lineCount l false false h
     go (some n) = refl
 call-logged l w (enrol n type) four h = refl
 call-logged l w (close k) four h = go (ltb k rules.lineCount) refl

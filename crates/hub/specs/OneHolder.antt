@@ -1,7 +1,7 @@
 -- No motor is held by two commands: over any list of calls, a node that is in one open session at the most stays so.
 use Prim.Native.Nat.{ℕ, zero, suc, _≤_}
 use mathlib.Core.List.{List, [], _∷_}
-use mathlib.Core.Bool.{Bool, true, false, cond}
+use mathlib.Core.Bool.{Bool, true, false}
 use mathlib.Core.Option.{Option, none, some}
 use native.Mathlib.Omega.{arith}
 use lib.ListN.{length, getD, replicate}
@@ -13,13 +13,12 @@ use Rattle.nodes.specs.Table as table
 use Rattle.sessions.specs.declared.Slot.{Slot}
 use Rattle.sessions.specs.Sessions as sessions
 use Rattle.sessions.specs.Holders.{holders, close-holders, modeSend-holders, finish-holders, leftBy}
-use Rattle.directory.specs.declared.Verdict.{Verdict}
-use Rattle.directory.specs.declared.Verdict.the-variants as verdicts
 use Rattle.directory.specs.Lookup as directory
 use Rattle.feeds.specs.System as feeds
 use Rattle.feeds.specs.SystemLaws.{Fed, barred, done, fed}
 use Rattle.hub.specs.declared.Hub.{Hub}
-use Rattle.hub.specs.Hub.{Reply, Password, byVerdict, same, enter, change, getNode, removeNodes, virginState, modeSend, request, mayAsk, serve, startRefusal, startBy, closeRefusal, closeBy, finishBy, hub}
+use Rattle.hub.specs.Hub.{Reply, Password, same, enter, change, getNode, removeNodes, virginState, modeSend, request, mayAsk, serve, startRefusal, startBy, closeRefusal, closeBy, finishBy, hub}
+use Rattle.hub.specs.Cases.{either, each-verdict}
 use Rattle.hub.specs.Calls.{World, Call, start, enrol, close, finish, feed, after, afterAll}
 
 module _ (n : ℕ) where
@@ -27,58 +26,44 @@ module _ (n : ℕ) where
   abbrev pub OneAtMost : Hub → Type 0
   OneAtMost h = holders n (h .slots) ≤ 1
 
+  abbrev Kept : Reply → Type 0
+  Kept r = OneAtMost (r .hub)
+
   -- nobody holds anything in free slots
   free : (k : ℕ) → holders n (replicate k sessions.closedSlot) ≤ 1
   unfolding holders
   free zero = omega arith
   free (suc k) = omega (arith, free k)
 
-  choose : (b : Bool) (x y : Reply) → OneAtMost (x .hub) → OneAtMost (y .hub) → OneAtMost (cond b x y .hub)
-  choose true x y p q = p
-  choose false x y p q = q
-
-  verdict-one : (v : Verdict) (a b x : Reply) → OneAtMost (a .hub) → OneAtMost (b .hub) → OneAtMost (x .hub) → OneAtMost (byVerdict v a b x .hub)
-  verdict-one verdicts.Unknown a b x p q r = p
-  verdict-one verdicts.WrongLength a b x p q r = q
-  verdict-one verdicts.Fits a b x p q r = r
-
   entered : (h : Hub) (l : ℕ) (d : List ℕ) → OneAtMost h → OneAtMost (enter h l d .hub)
   unfolding enter
-  entered h l d p = either (same d (h .password)) _ _ p p
-    where
-      either : (b : Bool) (x y : Password) → OneAtMost (x .hub) → OneAtMost (y .hub) → OneAtMost (cond b x y .hub)
-      either true x y p q = p
-      either false x y p q = q
+  entered h l d p = either (λ (x : Password). OneAtMost (x .hub)) (same d (h .password)) _ _ p p
 
   changed : (h : Hub) (d : List ℕ) → OneAtMost h → OneAtMost (change h d .hub)
   unfolding change
-  changed h d p = either (same _ (h .password)) _ _ p p
-    where
-      either : (b : Bool) (x y : Password) → OneAtMost (x .hub) → OneAtMost (y .hub) → OneAtMost (cond b x y .hub)
-      either true x y p q = p
-      either false x y p q = q
+  changed h d p = either (λ (x : Password). OneAtMost (x .hub)) (same _ (h .password)) _ _ p p
 
   got : (h : Hub) (t : List ℕ) (k : ℕ) → OneAtMost h → OneAtMost (getNode h t k .hub)
   unfolding getNode
-  got h t k p = choose (table.inUse t k) _ _ p p
+  got h t k p = either Kept (table.inUse t k) _ _ p p
 
   request-one : (h : Hub) (t : List ℕ) (l c : ℕ) (d : List ℕ) → OneAtMost h → OneAtMost (request h t l c d .hub)
   unfolding request removeNodes virginState modeSend
   request-one h t l c d p =
-      choose (eqb c 0x3000) _ _ (entered h l d p)
-      (choose (eqb c 0x3002) _ _ (changed h d p)
-      (choose (eqb c 0x0200) _ _ (got h t (getD d 0 0) p)
-      (choose (eqb c 0x0206) _ _ p
-      (choose (eqb c 0x0208) _ _ p
-      (choose (eqb c 0x020D) _ _ p
-      (choose (eqb c 0x0106) _ _ (omega (arith, close-holders n (sessions.holdsRemoved t d) (h .slots)))
-      (choose (eqb c 0x0108) _ _ (omega (arith, close-holders n (λ (s : Slot). true) (h .slots)))
-      (choose (eqb c 0x0320) _ _ (modeSend-holders n (h .slots) t l (sessions.modeSendOf d) p) p))))))))
+      either Kept (eqb c 0x3000) _ _ (entered h l d p)
+      (either Kept (eqb c 0x3002) _ _ (changed h d p)
+      (either Kept (eqb c 0x0200) _ _ (got h t (getD d 0 0) p)
+      (either Kept (eqb c 0x0206) _ _ p
+      (either Kept (eqb c 0x0208) _ _ p
+      (either Kept (eqb c 0x020D) _ _ p
+      (either Kept (eqb c 0x0106) _ _ (omega (arith, close-holders n (sessions.holdsRemoved t d) (h .slots)))
+      (either Kept (eqb c 0x0108) _ _ (omega (arith, close-holders n (λ (s : Slot). true) (h .slots)))
+      (either Kept (eqb c 0x0320) _ _ (modeSend-holders n (h .slots) t l (sessions.modeSendOf d) p) p))))))))
 
   pub serve-one : (h : Hub) (t : List ℕ) (l : ℕ) (o : Outcome) → OneAtMost h → OneAtMost (serve h t l o .hub)
   unfolding serve
   serve-one h t l (refused x) p = p
-  serve-one h t l (frame c d) p = verdict-one (directory.verdict c (length d)) _ _ _ p p (choose (mayAsk h l c) _ _ (request-one h t l c d p) p)
+  serve-one h t l (frame c d) p = each-verdict Kept (directory.verdict c (length d)) _ _ _ p p (either Kept (mayAsk h l c) _ _ (request-one h t l c d p) p)
 
   feed-one : (w : World) (e : feeds.Entry) → OneAtMost (w .hub) → OneAtMost (feeds.feed hub w e .0 .hub)
   unfolding feeds.settled feeds.serveIf feeds.returned

@@ -4,7 +4,7 @@ use mathlib.Core.Path.{_≡_, refl}
 use mathlib.Core.List.{List, [], _∷_, _++_, map}
 use mathlib.Core.Bool.{true, false}
 use lib.ListN.{replicate}
-use Rattle.nodes.specs.Table.{inUse, Result, setField, setName, setOrderAndPlacement, setVariation, information, bit, removeBelow, remove, enrolled}
+use Rattle.nodes.specs.Table.{inUse, setField, setName, setOrderAndPlacement, setVariation, information, bit, removeBelow, remove, enrolled}
 
 -- node 1 with its name's byte, order, placement and variation
 unfoldable with : ℕ → ℕ → ℕ → ℕ → List ℕ

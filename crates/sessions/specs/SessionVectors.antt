@@ -2,12 +2,12 @@
 use Prim.Native.Nat.{ℕ}
 use mathlib.Core.Path.{_≡_, refl}
 use mathlib.Core.List.{List, [], _∷_}
-use mathlib.Core.Option.{Option, none, some}
+use mathlib.Core.Option.{none, some}
 use lib.ListN.{length, replicate}
 use Rattle.nodes.specs.Table.{tableSize, inUse}
 use Rattle.sessions.specs.declared.Slot.{Slot}
 use Rattle.sessions.specs.Search.{any, first}
-use Rattle.sessions.specs.Sessions.{slotCount, closedSlot, ModeSend, targetsLegal, isLegal, marked, sessionSlot, modeSend, Finished, finish}
+use Rattle.sessions.specs.Sessions.{slotCount, closedSlot, ModeSend, targetsLegal, isLegal, marked, sessionSlot, modeSend, finish}
 
 unfoldable nodes : List ℕ
 nodes = replicate tableSize 1
