@@ -2,6 +2,7 @@
 use Prim.Native.Nat.{ℕ, _-_}
 use mathlib.Core.Path.{_≡_, refl}
 use mathlib.Core.List.{List, [], _∷_, _++_, map}
+use mathlib.Core.Option.{none, some}
 use lib.ListN.{length, replicate}
 use Rattle.frame.specs.Frame.{frame, refused, wire, escape, framed, body}
 use Rattle.frame.specs.Reading.{emptied}
@@ -92,3 +93,15 @@ removed = refl
 closed : rules.close moving emptied 2 .hub ∷ rules.close moving emptied 1 .hub ∷ rules.close moving emptied 4 .hub ∷ [] ≡ firstHub ∷ moving ∷ moving ∷ []
 unfolding windows loggedIn modeSendOf moving serve request enter same rules.modeSend sessions.modeSend sessions.isLegal sessions.targetsLegal sessions.marked search.any search.first table.inUse lookup.verdict lookup.verdictOf lookup.find directory
 closed = refl
+
+-- the host calls' refusals by the paper's numbers, where several apply the first
+refusals : rules.start firstHub [] [] .refusal ∷ rules.start firstHub windows [] .refusal ∷ rules.start firstHub windows (replicate 32 1) .refusal
+    ∷ rules.enrol [] 200 0 .refusal ∷ rules.enrol windows 200 0 .refusal ∷ rules.enrol windows 199 0 .refusal ∷ rules.enrol (replicate table.tableSize 0) 199 0 .refusal
+    ∷ rules.close firstHub emptied 4 .refusal ∷ rules.close firstHub emptied 3 .refusal ∷ []
+    ≡ some 7 ∷ some 14 ∷ none ∷ some 7 ∷ some 11 ∷ some 12 ∷ none ∷ some 8 ∷ none ∷ []
+unfolding windows table.inUse
+refusals = refl
+
+finishes : finish moving 0x0103 511 .answer ∷ finish moving 0x0103 512 .answer ∷ finish moving 0x0102 512 .answer ∷ [] ≡ rules.refusedFinish 9 ∷ rules.refusedFinish 13 ∷ rules.finishedOn 2 ∷ []
+unfolding windows loggedIn modeSendOf moving serve request enter same rules.modeSend sessions.modeSend sessions.isLegal sessions.targetsLegal sessions.marked sessions.finish search.any search.first table.inUse lookup.verdict lookup.verdictOf lookup.find directory
+finishes = refl
