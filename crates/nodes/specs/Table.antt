@@ -1,10 +1,12 @@
 -- The node table (document 01, "What the commands do"): its layout, and what the commands and host calls do to it.
-use Prim.Native.Nat.{ℕ, zero, suc, _+_, _*_, _/_, _%_, _^_}
+use Prim.Native.Nat.{ℕ, zero, suc, _+_, _-_, _*_, _/_, _%_, _^_}
 use mathlib.Core.List.{List, [], _∷_, _++_}
-use mathlib.Core.Bool.{Bool, cond, _&&_}
+use mathlib.Core.Bool.{Bool, true, false, cond, _&&_}
 use lib.ListN.{length, take, drop, getD, replicate}
 use lib.Dec.{ltb, eqb}
 use lib.Seq.{sets}
+use Rattle.nodes.specs.declared.Field.{Field}
+use Rattle.nodes.specs.declared.Informed.{Informed}
 
 -- ---- layout
 
@@ -18,11 +20,7 @@ recordSize = 72
 abbrev pub tableSize : ℕ
 tableSize = nodeCount * recordSize
 
--- a field of a record: where it stands, and how long it is
-pub record Field : Type 0 where
-  pub at : ℕ
-  pub size : ℕ
-
+-- a field of a record is where it stands and how long it is
 -- in use, type 2, name 64, order 2, placement 1, variation 1, spare 1
 abbrev pub useField : Field
 useField = record { at = 0; size = 1 }
@@ -53,8 +51,9 @@ orderAndPlacement = record { at = 67; size = 3 }
 abbrev pub fieldOf : List ℕ → ℕ → Field → List ℕ
 fieldOf t n f = take (f .size) (drop (n * recordSize + f .at) t)
 
+-- bytes beyond the field's size are not stored
 abbrev pub withField : List ℕ → ℕ → Field → List ℕ → List ℕ
-withField t n f vs = sets t (n * recordSize + f .at) vs
+withField t n f vs = sets t (n * recordSize + f .at) (take (f .size) vs)
 
 -- which node numbers there are
 abbrev pub isNode : ℕ → Bool
@@ -98,14 +97,21 @@ setOrderAndPlacement = setField orderAndPlacement
 abbrev pub maxVariation : ℕ
 maxVariation = 4
 
+abbrev pub isRejected : List ℕ → ℕ → ℕ → Bool
+isRejected t n v = inUse t n && ltb maxVariation v
+
 -- a variation above 4 then gives status 1
 unfoldable pub setVariation : List ℕ → ℕ → ℕ → Result
 setVariation t n v =
-    cond (inUse t n && ltb maxVariation v)
+    cond (isRejected t n v)
     (record { status = rejected; table = t })
     (setField variationField t n (v ∷ []))
 
 -- ---- get node information
+
+-- the data bytes of frame 0210
+abbrev pub informationSize : ℕ
+informationSize = 124
 
 -- frame 0210, 124 data bytes by section 8.3.3, with fields that the hub does not keep set to zero: NodeID, Order, Placement, Name,
 -- Velocity, NodeTypeSubType, ProductGroup, ProductType, NodeVariation, and from PowerMode on all that is not kept
@@ -113,6 +119,13 @@ unfoldable pub information : List ℕ → ℕ → List ℕ
 information t n =
     (n ∷ []) ++ fieldOf t n orderField ++ fieldOf t n placementField ++ fieldOf t n nameField
     ++ (0 ∷ []) ++ fieldOf t n typeField ++ (0 ∷ 0 ∷ []) ++ fieldOf t n variationField ++ replicate 50 0
+
+-- what is told of a node: nothing of one that is not in use, and nothing by a table of another length
+abbrev pub nothing : Informed
+nothing = record { known = false; bytes = replicate informationSize 0 }
+
+unfoldable pub informed : List ℕ → ℕ → Informed
+informed t n = cond (eqb (length t) tableSize && inUse t n) (record { known = true; bytes = information t n }) nothing
 
 -- ---- remove nodes, virgin state
 
@@ -131,12 +144,13 @@ emptyRecord = replicate recordSize 0
 abbrev pub withRecord : List ℕ → ℕ → List ℕ → List ℕ
 withRecord t n vs = sets t (n * recordSize) vs
 
+unfoldable pub removeOne : List ℕ → ℕ → List ℕ → List ℕ
+removeOne bits n t = cond (isRemoved t bits n) (withRecord t n emptyRecord) t
+
 -- the nodes below n that the bits name are removed
 unfoldable pub removeBelow : List ℕ → ℕ → List ℕ → List ℕ
 removeBelow bits zero t = t
-removeBelow bits (suc n) t =
-    let u = removeBelow bits n t in
-    cond (isRemoved t bits n) (withRecord u n emptyRecord) u
+removeBelow bits (suc n) t = removeOne bits n (removeBelow bits n t)
 
 -- bits from 200 on are ignored
 abbrev pub remove : List ℕ → List ℕ → List ℕ
@@ -149,8 +163,8 @@ emptied t = replicate (length t) 0
 -- ---- enrol
 
 -- in use, with its type, high byte first; other fields zero
-abbrev pub enrolledRecord : ℕ → List ℕ
-enrolledRecord type = (1 ∷ type / 256 ∷ type % 256 ∷ []) ++ replicate 69 0
+unfoldable pub enrolledRecord : ℕ → List ℕ
+enrolledRecord type = (1 ∷ type / 256 ∷ type % 256 ∷ []) ++ replicate (recordSize - 3) 0
 
 abbrev pub enrolled : List ℕ → ℕ → ℕ → List ℕ
 enrolled t n type = withRecord t n (enrolledRecord type)

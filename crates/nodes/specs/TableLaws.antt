@@ -4,10 +4,12 @@ use mathlib.Core.Path.{_≡_, refl, _∙_}
 use mathlib.Core.List.{List, [], _∷_}
 use mathlib.Core.Bool.{Bool, true, false, cond, _&&_}
 use native.Mathlib.Omega.{arith}
-use lib.ListN.{length, length-append, length-take, length-drop}
-use lib.Seq.{sets, length-sets}
+use lib.ListN.{length, take, length-append, length-take, length-drop}
+use lib.Seq.{length-sets}
 use lib.Dec.{ltb}
-use Rattle.nodes.specs.Table.{tableSize, recordSize, nodeCount, Field, useField, typeField, nameField, orderField, placementField, variationField, spareField, orderAndPlacement, fieldOf, inUse, setField, setVariation, Result, maxVariation, information, isRemoved, emptyRecord, withRecord, removeBelow}
+use borrow.Author.Tests.{ltb-true}
+use Rattle.nodes.specs.declared.Field.{Field}
+use Rattle.nodes.specs.Table.{tableSize, recordSize, nodeCount, useField, typeField, nameField, orderField, placementField, variationField, spareField, orderAndPlacement, fieldOf, withField, inUse, setField, isRejected, setVariation, Result, information, isRemoved, emptyRecord, withRecord, removeOne, removeBelow}
 
 -- the fields fill a record one behind the other
 fields-fill : (useField .at + useField .size ≡ typeField .at) × (typeField .at + typeField .size ≡ nameField .at)
@@ -25,29 +27,33 @@ pub setField-length : (f : Field) (t : List ℕ) (n : ℕ) (vs : List ℕ) → l
 unfolding setField
 setField-length f t n vs = go (inUse t n)
   where
-    go : (b : Bool) → length (cond {A = Result} b (record { status = 0; table = sets t (n * recordSize + f .at) vs }) (record { status = 2; table = t }) .table) ≡ length t
-    go true = length-sets t (n * recordSize + f .at) vs
+    go : (b : Bool) → length (cond {A = Result} b (record { status = 0; table = withField t n f vs }) (record { status = 2; table = t }) .table) ≡ length t
+    go true = length-sets t (n * recordSize + f .at) (take (f .size) vs)
     go false = refl
 
 pub setVariation-length : (t : List ℕ) (n v : ℕ) → length (setVariation t n v .table) ≡ length t
 unfolding setVariation
-setVariation-length t n v = go (inUse t n && ltb maxVariation v)
+setVariation-length t n v = go (isRejected t n v)
   where
     go : (b : Bool) → length (cond {A = Result} b (record { status = 1; table = t }) (setField variationField t n (v ∷ [])) .table) ≡ length t
     go true = refl
     go false = setField-length variationField t n (v ∷ [])
 
+removeOne-length : (bits : List ℕ) (n : ℕ) (t : List ℕ) → length (removeOne bits n t) ≡ length t
+unfolding removeOne
+removeOne-length bits n t = go (isRemoved t bits n)
+  where
+    go : (b : Bool) → length (cond b (withRecord t n emptyRecord) t) ≡ length t
+    go true = length-sets t (n * recordSize) emptyRecord
+    go false = refl
+
 pub remove-length : (bits : List ℕ) (n : ℕ) (t : List ℕ) → length (removeBelow bits n t) ≡ length t
 unfolding removeBelow
 remove-length bits zero t = refl
-remove-length bits (suc n) t = go (isRemoved t bits n) (remove-length bits n t)
-  where
-    go : (b : Bool) → length (removeBelow bits n t) ≡ length t → length (cond b (withRecord (removeBelow bits n t) n emptyRecord) (removeBelow bits n t)) ≡ length t
-    go true e = length-sets (removeBelow bits n t) (n * recordSize) emptyRecord ∙ e
-    go false e = e
+remove-length bits (suc n) t = removeOne-length bits n (removeBelow bits n t) ∙ remove-length bits n t
 
 -- a field of a node lies within a table of the right length
-field-length : (t : List ℕ) (n : ℕ) (f : Field) → length t ≡ tableSize → n < nodeCount → f .at + f .size ≤ recordSize → length (fieldOf t n f) ≡ f .size
+pub field-length : (t : List ℕ) (n : ℕ) (f : Field) → length t ≡ tableSize → n < nodeCount → f .at + f .size ≤ recordSize → length (fieldOf t n f) ≡ f .size
 field-length t n f e h k = simp (length-take, length-drop) (omega arith)
 
 -- a node's information has 124 bytes
@@ -60,3 +66,12 @@ information-length t n e h =
     let y = field-length t n typeField e h (omega arith) in
     let v = field-length t n variationField e h (omega arith) in
     simp (length-append, o, p, m, y, v)
+
+-- a node in use is one of the table's
+pub used-below : (t : List ℕ) (n : ℕ) → inUse t n ≡ true → n < nodeCount
+unfolding inUse
+used-below t n e = ltb-true n nodeCount (first (ltb n nodeCount) _ e)
+  where
+    first : (a b : Bool) → a && b ≡ true → a ≡ true
+    first true b e = refl
+    first false b e = e

@@ -4,7 +4,7 @@ use mathlib.Core.Path.{_≡_, refl}
 use mathlib.Core.List.{List, [], _∷_, _++_, map}
 use mathlib.Core.Bool.{true, false}
 use lib.ListN.{replicate}
-use Rattle.nodes.specs.Table.{inUse, setField, setName, setOrderAndPlacement, setVariation, information, bit, removeBelow, remove, enrolled}
+use Rattle.nodes.specs.Table.{inUse, setField, setName, setOrderAndPlacement, setVariation, information, bit, removeOne, removeBelow, remove, enrolledRecord, enrolled}
 
 -- node 1 with its name's byte, order, placement and variation
 unfoldable with : ℕ → ℕ → ℕ → ℕ → List ℕ
@@ -38,9 +38,10 @@ bits = refl
 
 -- node 1 is removed, and node 0 ignored
 removed : remove (3 ∷ []) (with 7 5 9 4) ∷ remove (1 ∷ []) (with 7 5 9 4) ∷ [] ≡ replicate 216 0 ∷ with 7 5 9 4 ∷ []
-unfolding with removeBelow bit inUse
+unfolding with removeBelow removeOne bit inUse
 removed = refl
 
 -- type high byte first, other fields zero
 enrols : enrolled (replicate 216 9) 1 0x0102 ≡ replicate 72 9 ++ (1 ∷ 0x01 ∷ 0x02 ∷ []) ++ replicate 69 0 ++ replicate 72 9
+unfolding enrolledRecord
 enrols = refl

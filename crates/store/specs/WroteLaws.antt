@@ -1,12 +1,12 @@
 -- Runs of bytes one behind the other.
 use Prim.Native.Nat.{ℕ, zero, suc, _+_, _-_, _≤_, _<_, min}
 use mathlib.Core.Path.{_≡_, refl, sym, ap, _∙_}
-use mathlib.Core.List.{List, [], _∷_, _++_}
+use mathlib.Core.List.{List, [], _∷_, _++_, append-nil}
 use native.Mathlib.Nat.{le-refl, add-zero, zero-add, add-suc, suc-add, add-assoc, suc-min-suc, min-zero, zero-min}
 use native.Mathlib.Numerals.{add-one}
 use native.Mathlib.Omega.{arith}
 use lib.ListN.{length, length-drop, length-set, length-replicate, take, drop, set, getD, replicate, length-append}
-use lib.Seq.{take-all, sets, sets-eq, length-sets, set-out, set-comm, take-suc}
+use lib.Seq.{take-all, drop-length, sets, sets-eq, length-sets, set-out, set-comm, take-suc}
 use Rattle.store.specs.Wrote.{fitting, Wrote}
 
 pub sets-append : (xs ys l : List ℕ) (i : ℕ) → sets (sets l i xs) (i + length xs) ys ≡ sets l i (xs ++ ys)
@@ -58,6 +58,10 @@ front-to {l} {m} {vs} {next} w h =
     let e : next ≡ length vs = w .place ∙ zero-add (length vs) in
     w .content ∙ front l vs (rw e at h) ∙ rw e
 
+-- as many bytes as there are places: the bytes
+pub sets-whole : (l vs : List ℕ) → length vs ≡ length l → sets l 0 vs ≡ vs
+sets-whole l vs e = front l vs (rw e (le-refl (length l))) ∙ rw (e, drop-length) (append-nil vs)
+
 -- ---- what runs past the end is dropped
 
 sets-out : (vs l : List ℕ) (i : ℕ) → length l ≤ i → sets l i vs ≡ l
@@ -69,7 +73,7 @@ sets-take zero vs l i h = sym (sets-out vs l i (omega arith))
 sets-take (suc n) [] l i h = refl
 sets-take (suc n) (v ∷ vs) l i h = sets-take n vs (set l i v) (suc i) (simp length-set (omega arith))
 
-take-min : (n : ℕ) (vs : List ℕ) → take (min (length vs) n) vs ≡ take n vs
+pub take-min : (n : ℕ) (vs : List ℕ) → take (min (length vs) n) vs ≡ take n vs
 take-min zero vs = rw min-zero
 take-min (suc n) [] = rw zero-min
 take-min (suc n) (v ∷ vs) = rw (suc-min-suc (length vs) n) (ap (λ (l : List ℕ). v ∷ l) (take-min n vs))
