@@ -1,5 +1,5 @@
 -- Laws of the wire form.
-use Prim.Native.Nat.{ℕ, _+_, _≤_}
+use Prim.Native.Nat.{ℕ, _+_, _*_, _≤_}
 use mathlib.Core.Path.{_≡_, refl, ap, _∙_}
 use mathlib.Core.List.{List, [], _∷_, _++_, append-assoc}
 use native.Mathlib.Omega.{arith}
@@ -34,7 +34,11 @@ pub wire-length : (c : ℕ) (d : List ℕ)
     → length (wire c d) ≡ length (escape (header c (length d))) + length (escape d) + length (escape (check c d ∷ [])) + 2
 wire-length c d = ap length (wire-parts c d) ∙ simp length-append (omega arith)
 
+-- each byte of a frame takes two at the most
+pub wire-short : (c : ℕ) (d : List ℕ) → length (wire c d) ≤ 2 * length d + 12
+wire-short c d =
+    omega (arith, wire-length c d, escape-short (header c (length d)), escape-short d, escape-short (check c d ∷ []))
+
 -- the longest wire form fits the least room
 pub wire-fits : (c : ℕ) (d : List ℕ) → length d ≤ maxData → length (wire c d) ≤ minRoom
-wire-fits c d h =
-    omega (arith, wire-length c d, escape-short (header c (length d)), escape-short d, escape-short (check c d ∷ []))
+wire-fits c d h = omega (arith, wire-short c d)

@@ -7,9 +7,10 @@ use native.Mathlib.Omega.{arith}
 use lib.ListN.{length, take, length-append, length-take, length-drop}
 use lib.Seq.{length-sets}
 use lib.Dec.{ltb}
-use borrow.Author.Tests.{ltb-true}
+use borrow.Author.Tests.{ltb-true, eq-eqb}
 use Rattle.nodes.specs.declared.Field.{Field}
-use Rattle.nodes.specs.Table.{tableSize, recordSize, nodeCount, useField, typeField, nameField, orderField, placementField, variationField, spareField, orderAndPlacement, fieldOf, withField, inUse, setField, isRejected, setVariation, Result, information, isRemoved, emptyRecord, withRecord, removeOne, removeBelow}
+use Rattle.nodes.specs.declared.Informed.{Informed}
+use Rattle.nodes.specs.Table.{tableSize, recordSize, nodeCount, useField, typeField, nameField, orderField, placementField, variationField, spareField, orderAndPlacement, fieldOf, withField, inUse, setField, isRejected, setVariation, Result, information, nothing, informed, isRemoved, emptyRecord, withRecord, removeOne, removeBelow}
 
 -- the fields fill a record one behind the other
 fields-fill : (useField .at + useField .size ≡ typeField .at) × (typeField .at + typeField .size ≡ nameField .at)
@@ -75,3 +76,16 @@ used-below t n e = ltb-true n nodeCount (first (ltb n nodeCount) _ e)
     first : (a b : Bool) → a && b ≡ true → a ≡ true
     first true b e = refl
     first false b e = e
+
+-- with a table of the right length, a node is known if it is in use, and then its information is told
+pub informed-known : (t : List ℕ) (n : ℕ) → length t ≡ tableSize → informed t n .known ≡ inUse t n
+unfolding informed
+informed-known t n e = rw (eq-eqb (length t) tableSize e) (go (inUse t n))
+  where
+    go : (b : Bool) → cond {A = Informed} b (record { known = true; bytes = information t n }) nothing .known ≡ b
+    go true = refl
+    go false = refl
+
+pub informed-bytes : (t : List ℕ) (n : ℕ) → length t ≡ tableSize → inUse t n ≡ true → informed t n .bytes ≡ information t n
+unfolding informed
+informed-bytes t n e u = rw (eq-eqb (length t) tableSize e, u)

@@ -10,8 +10,10 @@ use lib.Seq.{getD-set-other}
 use lib.Dec.{eqb}
 use borrow.Author.Tests.{eqb-true, eqb-false}
 use Rattle.sessions.specs.declared.Slot.{Slot}
+use Rattle.sessions.specs.declared.ModeSend.{ModeSend}
+use Rattle.sessions.specs.declared.Sent.{Sent}
 use Rattle.sessions.specs.Search.{any, first, member}
-use Rattle.sessions.specs.Sessions.{targetCount, closedSlot, isFree, isNumbered, holds, close, ModeSend, isLegal, marked, sessionSlot, Result, modeSend, Finished, finish}
+use Rattle.sessions.specs.Sessions.{targetCount, closedSlot, isFree, isNumbered, holds, close, named, isLegal, marked, sessionSlot, modeSend, Finished, finish}
 
 -- one, if a test holds
 abbrev pub count : Bool → ℕ
@@ -66,8 +68,8 @@ unmarked (suc k) zero = refl
 unmarked (suc k) (suc n) = unmarked k n
 
 -- a node that is not among the indices is not held by the new session
-not-held : (n l : ℕ) (r : ModeSend) → member n (r .indices) ≡ false → holds n (sessionSlot l r) ≡ false
-not-held n l r e = marked-member n (r .indices) (replicate targetCount false) e ∙ unmarked targetCount n
+not-held : (n l : ℕ) (r : ModeSend) → member n (named r) ≡ false → holds n (sessionSlot l r) ≡ false
+not-held n l r e = marked-member n (named r) (replicate targetCount false) e ∙ unmarked targetCount n
 
 -- a test that fails for a whole list fails for each of its members
 fails-each : (p : ℕ → Bool) (ns : List ℕ) (n : ℕ) → any p ns ≡ false → member n ns ≡ true → p n ≡ false
@@ -84,11 +86,11 @@ fails-each p (m ∷ ns) n e x = go (p m) (eqb n m) refl refl (fails-each p ns n)
 -- mode send gives a node a holder only if it had none
 pub modeSend-holders : (n : ℕ) (ss : List Slot) (t : List ℕ) (l : ℕ) (r : ModeSend) → holders n ss ≤ 1 → holders n (modeSend ss t l r .slots) ≤ 1
 unfolding modeSend
-modeSend-holders n ss t l r h = go (not (isLegal t r)) (any (isNumbered (r .session)) ss) (not (any isFree ss)) (any (λ n. any (holds n) ss) (r .indices)) refl
+modeSend-holders n ss t l r h = go (not (isLegal t r)) (any (isNumbered (r .session)) ss) (not (any isFree ss)) (any (λ n. any (holds n) ss) (named r)) refl
   where
-    taken : (b : Bool) → member n (r .indices) ≡ b → any (λ n. any (holds n) ss) (r .indices) ≡ false → holders n (set ss (first isFree ss) (sessionSlot l r)) ≤ 1
+    taken : (b : Bool) → member n (named r) ≡ b → any (λ n. any (holds n) ss) (named r) ≡ false → holders n (set ss (first isFree ss) (sessionSlot l r)) ≤ 1
     taken true x e =
-        let z = none-holds n ss (fails-each (λ n. any (holds n) ss) (r .indices) n e x) in
+        let z = none-holds n ss (fails-each (λ n. any (holds n) ss) (named r) n e x) in
         omega (arith, set-holders n ss (first isFree ss) (sessionSlot l r), at-most (holds n (sessionSlot l r)))
       where
         at-most : (b : Bool) → count b ≤ 1
@@ -96,14 +98,14 @@ modeSend-holders n ss t l r h = go (not (isLegal t r)) (any (isNumbered (r .sess
         at-most false = omega arith
     taken false x e = omega (arith, set-holders n ss (first isFree ss) (sessionSlot l r), ap count (not-held n l r x))
 
-    go : (a b c d : Bool) → any (λ n. any (holds n) ss) (r .indices) ≡ d
-        → holders n (cond {A = Result} a (record { status = 5; slots = ss }) (cond b (record { status = 3; slots = ss }) (cond c (record { status = 4; slots = ss })
+    go : (a b c d : Bool) → any (λ n. any (holds n) ss) (named r) ≡ d
+        → holders n (cond {A = Sent} a (record { status = 5; slots = ss }) (cond b (record { status = 3; slots = ss }) (cond c (record { status = 4; slots = ss })
         (cond d (record { status = 1; slots = ss }) (record { status = 0; slots = set ss (first isFree ss) (sessionSlot l r) })))) .slots) ≤ 1
     go true b c d e = h
     go false true c d e = h
     go false false true d e = h
     go false false false true e = h
-    go false false false false e = taken (member n (r .indices)) refl e
+    go false false false false e = taken (member n (named r)) refl e
 
 -- the slots that a finish leaves
 abbrev pub leftBy : Option Finished → List Slot → List Slot

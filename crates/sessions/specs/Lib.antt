@@ -1,4 +1,6 @@
 pub mod Search
+pub mod SearchLaws
+pub mod ListLaws
 pub mod Sessions
 pub mod SessionLaws
 pub mod Holders

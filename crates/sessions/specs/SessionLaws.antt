@@ -1,13 +1,24 @@
 -- Laws of the sessions.
-use Prim.Native.Nat.{ℕ}
-use mathlib.Core.Path.{_≡_, refl}
-use mathlib.Core.List.{List, [], _∷_}
+use Prim.Native.Nat.{ℕ, zero, suc, _+_, _<_, _≤_}
+use mathlib.Core.Path.{_≡_, refl, sym, ap, _∙_}
+use mathlib.Core.List.{List, [], _∷_, _++_}
 use mathlib.Core.Bool.{Bool, true, false, cond, not, _&&_}
-use lib.ListN.{length, set, length-map, length-set}
-use Rattle.nodes.specs.Table.{isRemoved, nodeCount}
+use mathlib.Core.Option.{Option, none, some}
+use native.Mathlib.Numerals.{add-one}
+use native.Mathlib.Omega.{arith}
+use lib.ListN.{length, take, drop, getD, set, replicate, length-map, length-set, drop-of-length-le}
+use lib.Seq.{drop-cons, take-suc}
+use lib.Dec.{leb, ltb, eqb}
+use borrow.Author.Tests.{leb-true}
+use Rattle.nodes.specs.Table.{inUse, isRemoved, nodeCount}
 use Rattle.sessions.specs.declared.Slot.{Slot}
-use Rattle.sessions.specs.Search.{any, first, below}
-use Rattle.sessions.specs.Sessions.{closedSlot, isOn, closeLine, holdsRemoved, closeRemoved, isFree, isNumbered, holds, closeIf, close, ModeSend, isLegal, sessionSlot, Result, modeSend}
+use Rattle.sessions.specs.declared.ModeSend.{ModeSend}
+use Rattle.sessions.specs.declared.Sent.{Sent}
+use Rattle.sessions.specs.declared.Told.the-variants.{Line, NotOpen}
+use Rattle.sessions.specs.declared.Ended.{Ended}
+use Rattle.sessions.specs.Search.{any, first, member, below}
+use Rattle.sessions.specs.SearchLaws.{member-last}
+use Rattle.sessions.specs.Sessions.{closedSlot, isOn, closeLine, holdsRemoved, closeRemoved, isFree, isNumbered, holds, closeIf, close, closeAll, targetCount, maxIndices, named, targetsLegal, isLegal, marked, sessionSlot, modeSend, Finished, ended}
 
 -- there are as many slots after a close or a mode send as before
 pub close-length : (p : Slot → Bool) (ss : List Slot) → length (close p ss) ≡ length ss
@@ -15,10 +26,10 @@ close-length p ss = length-map ss (closeIf p)
 
 pub modeSend-length : (ss : List Slot) (t : List ℕ) (l : ℕ) (r : ModeSend) → length (modeSend ss t l r .slots) ≡ length ss
 unfolding modeSend
-modeSend-length ss t l r = go (not (isLegal t r)) (any (isNumbered (r .session)) ss) (not (any isFree ss)) (any (λ n. any (holds n) ss) (r .indices))
+modeSend-length ss t l r = go (not (isLegal t r)) (any (isNumbered (r .session)) ss) (not (any isFree ss)) (any (λ n. any (holds n) ss) (named r))
   where
     go : (a b c d : Bool)
-        → length (cond {A = Result} a (record { status = 5; slots = ss }) (cond b (record { status = 3; slots = ss }) (cond c (record { status = 4; slots = ss })
+        → length (cond {A = Sent} a (record { status = 5; slots = ss }) (cond b (record { status = 3; slots = ss }) (cond c (record { status = 4; slots = ss })
         (cond d (record { status = 1; slots = ss }) (record { status = 0; slots = set ss (first isFree ss) (sessionSlot l r) })))) .slots) ≡ length ss
     go true b c d = refl
     go false true c d = refl
@@ -53,3 +64,80 @@ removed-none t bits = free-none (isRemoved t bits) (below nodeCount)
 -- and none holds a node that was removed
 pub closeRemoved-none : (t bits : List ℕ) (ss : List Slot) → any (holdsRemoved t bits) (closeRemoved t bits ss) ≡ false
 closeRemoved-none t bits ss = close-none (holdsRemoved t bits) (removed-none t bits) ss
+
+-- a legal request has at most 20 indices
+pub legal-count : (t : List ℕ) (r : ModeSend) → isLegal t r ≡ true → r .count ≤ maxIndices
+unfolding isLegal
+legal-count t r e = go (leb 1 (r .count)) (leb (r .count) maxIndices) _ refl e
+  where
+    go : (a b x : Bool) → leb (r .count) maxIndices ≡ b → (a && (b && x)) ≡ true → r .count ≤ maxIndices
+    go true true x h e = leb-true (r .count) maxIndices h
+    go true false x h e = let z : _≡_ {A = ℕ} 0 1 = cc in absurd (omega arith)
+    go false b x h e = let z : _≡_ {A = ℕ} 0 1 = cc in absurd (omega arith)
+
+-- which numbers were seen counts, and not in which order
+seen-same : (t ns a b : List ℕ) → ((n : ℕ) → member n a ≡ member n b) → targetsLegal t a ns ≡ targetsLegal t b ns
+unfolding targetsLegal any
+seen-same t [] a b e = refl
+seen-same t (n ∷ ns) a b e = simp (e n, seen-same t ns (n ∷ a) (n ∷ b) (λ m. ap (cond (eqb m n) true) (e m)))
+
+-- going through the indices: the one at a place is legal, or is not, or there is none
+module _ (t is : List ℕ) (i : ℕ) (h : i < length is) where
+  pub targets-on : (ltb (getD is i 0) targetCount && (inUse t (getD is i 0) && not (member (getD is i 0) (take i is)))) ≡ true
+      → targetsLegal t (take i is) (drop i is) ≡ targetsLegal t (take (i + 1) is) (drop (i + 1) is)
+  unfolding targetsLegal
+  targets-on e =
+      rw (drop-cons is i 0, targetsLegal)
+      (go (ltb (getD is i 0) targetCount) (inUse t (getD is i 0)) (not (member (getD is i 0) (take i is))) _ e
+      ∙ rw (add-one, take-suc is i 0) (seen-same t (drop (suc i) is) _ _ (λ m. member-last m (getD is i 0) (take i is))))
+    where
+      go : (a b c x : Bool) → (a && (b && c)) ≡ true → (a && (b && (c && x))) ≡ x
+      go true true true x e = refl
+      go true true false x e = let z : _≡_ {A = ℕ} 0 1 = cc in absurd (omega arith)
+      go true false c x e = let z : _≡_ {A = ℕ} 0 1 = cc in absurd (omega arith)
+      go false b c x e = let z : _≡_ {A = ℕ} 0 1 = cc in absurd (omega arith)
+
+  pub targets-off : (ltb (getD is i 0) targetCount && (inUse t (getD is i 0) && not (member (getD is i 0) (take i is)))) ≡ false
+      → targetsLegal t (take i is) (drop i is) ≡ false
+  unfolding targetsLegal
+  targets-off e =
+      rw (drop-cons is i 0, targetsLegal)
+      (go (ltb (getD is i 0) targetCount) (inUse t (getD is i 0)) (not (member (getD is i 0) (take i is))) _ e)
+    where
+      go : (a b c x : Bool) → (a && (b && c)) ≡ false → (a && (b && (c && x))) ≡ false
+      go true true true x e = let z : _≡_ {A = ℕ} 0 1 = cc in absurd (omega arith)
+      go true true false x e = refl
+      go true false c x e = refl
+      go false b c x e = refl
+
+pub targets-end : (t is : List ℕ) (i : ℕ) → length is ≤ i → targetsLegal t (take i is) (drop i is) ≡ true
+unfolding targetsLegal
+targets-end t is i h = rw (drop-of-length-le is h)
+
+-- and marking them
+pub marked-on : (ms : List Bool) (is : List ℕ) (i : ℕ) → i < length is → marked ms (drop i is) ≡ marked (set ms (getD is i 0) true) (drop (i + 1) is)
+unfolding marked
+marked-on ms is i h = rw (add-one, drop-cons is i 0, marked)
+
+pub marked-end : (ms : List Bool) (is : List ℕ) (i : ℕ) → length is ≤ i → marked ms (drop i is) ≡ ms
+unfolding marked
+marked-end ms is i h = rw (drop-of-length-le is h)
+
+-- closing all leaves free slots only
+pub closeAll-free : (ss : List Slot) (n : ℕ) → length ss ≡ n → closeAll ss ≡ replicate n closedSlot
+closeAll-free [] zero e = refl
+closeAll-free [] (suc n) e = absurd (omega arith)
+closeAll-free (s ∷ ss) zero e = absurd (omega arith)
+closeAll-free (s ∷ ss) (suc n) e = ap (λ (l : List Slot). closedSlot ∷ l) (closeAll-free ss n (omega arith))
+
+-- what finish gives, from what the code tells
+pub ended-open : (e : Ended) (ss : List Slot) (o : Option Finished) (l : ℕ) → e ≡ ended ss o → e .told ≡ Line l → o ≡ some (record { line = l; slots = e .slots })
+ended-open e ss none l x y = let z : _≡_ {A = ℕ} 0 1 = cc (ap (λ (d : Ended). d .told) x) in absurd (omega arith)
+ended-open e ss (some f) l x y =
+    let line : f .line ≡ l = cc (ap (λ (d : Ended). d .told) x) in
+    let slots : f .slots ≡ e .slots = sym (ap (λ (d : Ended). d .slots) x) in
+    rw (← line, ← slots)
+
+pub ended-not-open : (e : Ended) (ss : List Slot) (o : Option Finished) → e ≡ ended ss o → e .told ≡ NotOpen → o ≡ none
+ended-not-open e ss none x y = refl
+ended-not-open e ss (some f) x y = let z : _≡_ {A = ℕ} 0 1 = cc (ap (λ (d : Ended). d .told) x) in absurd (omega arith)

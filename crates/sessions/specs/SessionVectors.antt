@@ -1,19 +1,21 @@
 -- Each status of mode send, computed: all nodes are in use, and session 1 on line 0 holds node 199.
-use Prim.Native.Nat.{ℕ}
+use Prim.Native.Nat.{ℕ, _-_}
 use mathlib.Core.Path.{_≡_, refl}
-use mathlib.Core.List.{List, [], _∷_}
+use mathlib.Core.List.{List, [], _∷_, _++_}
 use mathlib.Core.Option.{none, some}
-use lib.ListN.{length, replicate}
-use Rattle.nodes.specs.Table.{tableSize, inUse}
+use lib.ListN.{length, drop, replicate}
+use Rattle.nodes.specs.Table.{tableSize, inUse, bit}
 use Rattle.sessions.specs.declared.Slot.{Slot}
-use Rattle.sessions.specs.Search.{any, first}
-use Rattle.sessions.specs.Sessions.{slotCount, closedSlot, ModeSend, targetsLegal, isLegal, marked, sessionSlot, modeSend, finish}
+use Rattle.sessions.specs.declared.ModeSend.{ModeSend}
+use Rattle.sessions.specs.Search.{any, first, below}
+use Rattle.sessions.specs.Sessions.{slotCount, closedSlot, holdsRemoved, closeRemoved, maxIndices, modeSendOf, targetsLegal, isLegal, marked, sessionSlot, modeSend, finish}
 
 unfoldable nodes : List ℕ
 nodes = replicate tableSize 1
 
+-- the places behind the indices have 199, which counts for nothing
 unfoldable request : ℕ → List ℕ → ModeSend
-request x ns = record { session = x; originator = 1; priority = 3; count = length ns; indices = ns; lock = 0 }
+request x ns = record { session = x; originator = 1; priority = 3; count = length ns; indices = ns ++ replicate (maxIndices - length ns) 199; lock = 0 }
 
 unfoldable busy : List Slot
 busy = modeSend (replicate slotCount closedSlot) nodes 0 (request 1 (199 ∷ [])) .slots
@@ -26,12 +28,20 @@ opened : busy ≡ sessionSlot 0 (request 1 (199 ∷ [])) ∷ replicate 7 closedS
 unfolding nodes request busy modeSend isLegal targetsLegal inUse any first marked
 opened = refl
 
+unfoldable full : List Slot
+full = replicate slotCount (sessionSlot 0 (request 1 []))
+
 -- a node named twice, a number that is open, no free slot, a node that is held, and none of these
-statuses : status busy (request 2 (7 ∷ 7 ∷ [])) ∷ status busy (request 1 (7 ∷ [])) ∷ status (replicate slotCount (sessionSlot 0 (request 1 []))) (request 2 (7 ∷ []))
+statuses : status busy (request 2 (7 ∷ 7 ∷ [])) ∷ status busy (request 1 (199 ∷ [])) ∷ status full (request 2 (7 ∷ []))
     ∷ status busy (request 2 (7 ∷ 199 ∷ [])) ∷ status busy (request 2 (7 ∷ [])) ∷ []
     ≡ 5 ∷ 3 ∷ 4 ∷ 1 ∷ 0 ∷ []
-unfolding nodes request busy status modeSend isLegal targetsLegal inUse any first marked
+unfolding nodes request busy full status modeSend isLegal targetsLegal inUse any first marked
 statuses = refl
+
+-- an open number comes before the lack of a slot; a session of the same line holds its nodes; the number in a free slot is not open
+firsts : status full (request 1 (7 ∷ [])) ∷ modeSend busy nodes 0 (request 2 (199 ∷ [])) .status ∷ status busy (request 0 (7 ∷ [])) ∷ [] ≡ 3 ∷ 1 ∷ 0 ∷ []
+unfolding nodes request busy full status modeSend isLegal targetsLegal inUse any first marked
+firsts = refl
 
 -- two slots with the same number: finish closes the lowest, and tells its line
 unfoldable slot : ℕ → ℕ → Slot
@@ -40,3 +50,15 @@ slot l x = sessionSlot l (request x (199 ∷ []))
 finished : finish (closedSlot ∷ slot 3 1 ∷ slot 2 1 ∷ []) 1 ∷ finish (slot 3 1 ∷ []) 2 ∷ [] ≡ some (record { line = 3; slots = closedSlot ∷ closedSlot ∷ slot 2 1 ∷ [] }) ∷ none ∷ []
 unfolding request slot finish any first marked
 finished = refl
+
+-- node 7 is removed: of two sessions the one that has it closes, with its other node
+closed : closeRemoved nodes (128 ∷ []) (sessionSlot 0 (request 1 (7 ∷ 199 ∷ [])) ∷ slot 0 2 ∷ []) ≡ closedSlot ∷ slot 0 2 ∷ []
+unfolding nodes request slot holdsRemoved any below bit inUse marked
+closed = refl
+
+-- the data bytes 0 to 30, and none
+read : modeSendOf (below 31) ∷ modeSendOf [] ∷ []
+    ≡ record { session = 1; originator = 2; priority = 3; count = 6; indices = drop 7 (below 27); lock = 27 }
+    ∷ record { session = 0; originator = 0; priority = 0; count = 0; indices = replicate maxIndices 0; lock = 0 } ∷ []
+unfolding below
+read = refl

@@ -1,12 +1,17 @@
 -- The sessions (document 01, mode send and the host calls): who holds which motor.
 use Prim.Native.Nat.{ℕ, _+_, _*_}
-use mathlib.Core.List.{List, [], _∷_, map}
+use mathlib.Core.List.{List, [], _∷_, _++_, map}
 use mathlib.Core.Bool.{Bool, true, false, cond, not, _&&_}
 use mathlib.Core.Option.{Option, none, some}
 use lib.ListN.{take, drop, set, getD, replicate}
 use lib.Dec.{leb, ltb, eqb}
 use Rattle.nodes.specs.Table.{inUse, isRemoved, nodeCount}
 use Rattle.sessions.specs.declared.Slot.{Slot}
+use Rattle.sessions.specs.declared.ModeSend.{ModeSend}
+use Rattle.sessions.specs.declared.Sent.{Sent}
+use Rattle.sessions.specs.declared.Told.{Told}
+use Rattle.sessions.specs.declared.Told.the-variants.{Line, NotOpen}
+use Rattle.sessions.specs.declared.Ended.{Ended}
 use Rattle.sessions.specs.Search.{any, first, member, below}
 
 -- ---- slots
@@ -60,25 +65,25 @@ closeRemoved t bits = close (holdsRemoved t bits)
 
 -- ---- mode send (section 10.6)
 
--- data are session 2, originator, priority, mode, parameter, count, 20 indices, lock, two level bytes, lock time
-pub record ModeSend : Type 0 where
-  pub session : ℕ
-  pub originator : ℕ
-  pub priority : ℕ
-  pub count : ℕ
-  pub indices : List ℕ
-  pub lock : ℕ
+-- a mode send has 20 indices
+abbrev pub maxIndices : ℕ
+maxIndices = 20
 
--- later indices than the first count are ignored; mode, parameter, levels and lock time are free
+-- data are session 2, originator, priority, mode, parameter, count, 20 indices, lock, two level bytes, lock time; mode, parameter,
+-- levels and lock time are free, and bytes that are missing count as 0
 abbrev pub modeSendOf : List ℕ → ModeSend
 modeSendOf d = record {
   session = getD d 0 0 * 256 + getD d 1 0;
   originator = getD d 2 0;
   priority = getD d 3 0;
   count = getD d 6 0;
-  indices = take (getD d 6 0) (drop 7 d);
+  indices = take maxIndices (drop 7 d ++ replicate maxIndices 0);
   lock = getD d 27 0;
 }
+
+-- later indices than the first count are ignored
+abbrev pub named : ModeSend → List ℕ
+named r = take (r .count) (r .indices)
 
 -- the specification's status values
 abbrev pub accepted : ℕ
@@ -96,9 +101,6 @@ noFreeSlot = 4
 abbrev pub illegalParameter : ℕ
 illegalParameter = 5
 
-abbrev pub maxIndices : ℕ
-maxIndices = 20
-
 -- no index is above 199, not in use, or named twice; those in `seen` are named already
 unfoldable pub targetsLegal : List ℕ → List ℕ → List ℕ → Bool
 targetsLegal t seen [] = true
@@ -110,7 +112,7 @@ originators = 1 ∷ 2 ∷ 3 ∷ 5 ∷ 8 ∷ 9 ∷ 11 ∷ 12 ∷ 13 ∷ 255 ∷ [
 -- status 5 if count is not 1 to 20, for an index, priority above 7, lock above 1, or an originator that is not one of these
 unfoldable pub isLegal : List ℕ → ModeSend → Bool
 isLegal t r =
-    leb 1 (r .count) && (leb (r .count) maxIndices && (targetsLegal t [] (r .indices)
+    leb 1 (r .count) && (leb (r .count) maxIndices && (targetsLegal t [] (named r)
     && (leb (r .priority) 7 && (leb (r .lock) 1 && member (r .originator) originators))))
 
 -- the nodes of a session, marked
@@ -119,21 +121,16 @@ marked ms [] = ms
 marked ms (n ∷ ns) = marked (set ms n true) ns
 
 abbrev pub sessionSlot : ℕ → ModeSend → Slot
-sessionSlot l r = record { used = true; number = r .session; line = l; nodes = marked (replicate targetCount false) (r .indices) }
+sessionSlot l r = record { used = true; number = r .session; line = l; nodes = marked (replicate targetCount false) (named r) }
 
--- what a mode send answers, and the slots that it leaves
-pub record Result : Type 0 where
-  pub status : ℕ
-  pub slots : List Slot
-
--- the first that applies: 5; 3 if the session number is open on any line; 4 if all slots are taken; 1 if a named node is in an open
--- session, the same line's included; else 0, and the lowest free slot takes the session, its line and its nodes
-unfoldable pub modeSend : List Slot → List ℕ → ℕ → ModeSend → Result
+-- the status, the first that applies: 5; 3 if the session number is open on any line; 4 if all slots are taken; 1 if a named node is in
+-- an open session, the same line's included; else 0, and the lowest free slot takes the session, its line and its nodes
+unfoldable pub modeSend : List Slot → List ℕ → ℕ → ModeSend → Sent
 modeSend ss t l r =
     cond (not (isLegal t r)) (record { status = illegalParameter; slots = ss })
     (cond (any (isNumbered (r .session)) ss) (record { status = sessionInUse; slots = ss })
     (cond (not (any isFree ss)) (record { status = noFreeSlot; slots = ss })
-    (cond (any (λ n. any (holds n) ss) (r .indices)) (record { status = rejected; slots = ss })
+    (cond (any (λ n. any (holds n) ss) (named r)) (record { status = rejected; slots = ss })
     (record { status = accepted; slots = set ss (first isFree ss) (sessionSlot l r) }))))
 
 -- ---- finish a session
@@ -147,3 +144,8 @@ unfoldable pub finish : List Slot → ℕ → Option Finished
 finish ss x =
     let k = first (isNumbered x) ss in
     cond (any (isNumbered x) ss) (some (record { line = getD ss k closedSlot .line; slots = set ss k closedSlot })) none
+
+-- the same as the code tells it: the slots stay as they were where the number is not open
+abbrev pub ended : List Slot → Option Finished → Ended
+ended ss none = record { told = NotOpen; slots = ss }
+ended ss (some f) = record { told = Line (f .line); slots = f .slots }

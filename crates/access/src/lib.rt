@@ -1,0 +1,100 @@
+// Passwords and logins: password enter and change, and who is logged in (document 01, "What the commands do").
+// Answers and hubs are the definition's: crate rules, specs/Hub.antt. It stands on the hub's rules.
+ghost use mathlib.Core.Path.{_≡_};
+ghost use lib.ListN.{set};
+ghost use Rattle.rules.specs.Hub.{same, enter, change, isListed};
+ghost use Rattle.access.specs.Answers.{Enters};
+use rules::Hub;
+
+// What a password request answers, and the hub that it leaves.
+pub struct Entered {
+    pub status: u8,
+    pub hub: Hub,
+}
+
+// Password enter, on a line.
+pub fn enter(hub: Hub, line: u8, given: [u8; 32]) -> Entered
+    ensures { λ r. ⌜ Enters (enter hub line given) r ⌝ }
+{
+    let password = hub.password;
+    if !same(given, password) {
+        return Entered {
+            status: 1,
+            hub: hub,
+        };
+    }
+    let before = hub.logins;
+    let logins = with_login(before, line, true);
+    let slots = hub.slots;
+    let next = Hub {
+        password: password,
+        logins: logins,
+        slots: slots,
+    };
+    Entered {
+        status: 0,
+        hub: next,
+    }
+}
+
+// Password change.
+pub fn change(hub: Hub, old: [u8; 32], new: [u8; 32]) -> Entered
+    ensures { λ r. ⌜ Enters (change hub old new) r ⌝ }
+{
+    let password = hub.password;
+    if !same(old, password) {
+        return Entered {
+            status: 1,
+            hub: hub,
+        };
+    }
+    let logins = hub.logins;
+    let slots = hub.slots;
+    let next = Hub {
+        password: new,
+        logins: logins,
+        slots: slots,
+    };
+    Entered {
+        status: 0,
+        hub: next,
+    }
+}
+
+// Whether a line is logged in.
+pub fn is_logged_in(logins: [bool; 4], line: u8) -> bool
+    ensures { λ r. ⌜ r ≡ isListed logins line ⌝ }
+{
+    let k = line as usize;
+    if rules::LINES <= k {
+        return false;
+    }
+    logins[k]
+}
+
+// A line is logged in or out; there is no line above 3.
+pub fn with_login(logins: [bool; 4], line: u8, value: bool) -> [bool; 4]
+    ensures { λ r. ⌜ r ≡ set logins line value ⌝ }
+{
+    let k = line as usize;
+    if rules::LINES <= k {
+        return logins;
+    }
+    let mut out = logins;
+    out[k] = value;
+    out
+}
+
+// All bytes are compared.
+fn same(a: [u8; 32], b: [u8; 32]) -> bool
+    ensures { λ r. ⌜ r ≡ same a b ⌝ }
+{
+    let mut i = 0;
+    while i < rules::PASSWORD {
+        if a[i] != b[i] {
+            return false;
+        }
+        i += 1;
+    }
+    true
+}

@@ -1,0 +1,52 @@
+use Rattle.rules.specs.Hub.{passwordSize}
+use native.Mathlib.Omega.{arith}
+use native.Mathlib.Nat.{le-refl}
+use lib.Seq.{take-all}
+use mathlib.Core.Path.{_∙_, refl, _≡_}
+use borrow.Author.Needs.{needs}
+use Rattle.requests.proofs.enter.Statement.{statement}
+use Rattle.requests.proofs.enter.Tie as tie
+use Rattle.requests.proofs.enter.Reads as reads
+use Rattle.requests.proofs.enter.Lts as lts
+use Rattle.access.proofs.enter.Reads as enter-reads
+use Rattle.requests.proofs.password_at.Reads as password-at-reads
+use Rattle.requests.proofs.reply.Reads as reply-reads
+
+-- src/lib.rt:50:9
+password-at-requires : tie.Need-password-at-requires
+password-at-requires c κs = search needs
+
+-- src/lib.rt:51:9
+enter-requires : tie.Need-enter-requires
+enter-requires c κs = search needs
+
+-- src/lib.rt:54:33
+slice-aggregate-reply : tie.Need-slice-aggregate-reply
+slice-aggregate-reply c = search needs
+
+-- src/lib.rt:54:9
+reply-requires : tie.Need-reply-requires
+reply-requires c κs = search needs
+
+-- src/lib.rt:46:1
+same-length : tie.Need-same-length
+same-length c = search needs
+
+-- src/lib.rt:46:1
+returns : tie.Need-returns
+returns c = 
+    let d = c .before .before .before .before .before .before .before .before .before .before .args .payload .now in
+    let e = c .before .before .before .before .before .before .before .password-at .ensures ∙ take-all passwordSize d (omega (arith, c .before .before .before .before .before .before .before .before .before .before .pre .1)) in
+    let x = rw e at (c .before .before .before .before .before .before .enter .ensures) in
+    record { hub = x .hub; replied = rw (x .status) at (c .before .before .reply .ensures) }
+
+pub enter-spec : {M : Type 1} → statement M
+enter-spec =
+    tie.close
+    (tie.spec
+    password-at-requires
+    enter-requires
+    slice-aggregate-reply
+    reply-requires
+    same-length
+    returns)

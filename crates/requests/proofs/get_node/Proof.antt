@@ -1,0 +1,86 @@
+use Rattle.requests.specs.ReplyLaws.{both-replied, replied-length}
+use Rattle.rules.specs.Hub.{getNode}
+use Rattle.nodes.specs.declared.Informed.{Informed}
+use Rattle.nodes.specs.TableLaws.{informed-known, informed-bytes, information-length, used-below}
+use Rattle.nodes.specs.Table.{inUse}
+use Rattle.frame.specs.WireLaws.{wire-short}
+use borrow.Author.Tests.{not-true, not-false}
+use lib.ListN.{length}
+use native.Mathlib.Omega.{arith}
+use mathlib.Core.List.{[], _∷_}
+use mathlib.Core.Bool.{true, false}
+use mathlib.Core.Path.{_≡_, refl, sym, ap, _∙_}
+use borrow.Author.Needs.{needs}
+use Rattle.requests.proofs.get_node.Statement.{statement}
+use Rattle.requests.proofs.get_node.Tie as tie
+use Rattle.requests.proofs.get_node.Reads as reads
+use Rattle.requests.proofs.get_node.Lts as lts
+use Rattle.nodes.proofs.information.Reads as information-reads
+use Rattle.requests.proofs.confirm.Reads as confirm-reads
+use Rattle.requests.proofs.reply_at.Reads as reply-at-reads
+
+-- whether the node is known is whether it is in use
+known : (c : tie.After-information) → c .information .result .known ≡ inUse (c .before .before .before .args .table .now) (c .before .before .before .args .node)
+known c = ap (λ (x : Informed). x .known) (c .information .ensures) ∙ informed-known _ _ (c .before .before .before .pre .0)
+
+-- src/lib.rt:84:9
+information-requires : tie.Need-information-requires
+information-requires c κs = search needs
+
+-- src/lib.rt:86:13
+confirm-requires : tie.Need-confirm-requires
+confirm-requires c κs = search needs
+
+-- src/lib.rt:87:9
+same-length : tie.Need-same-length
+same-length c = search needs
+
+-- src/lib.rt:87:9
+returns : tie.Need-returns
+unfolding getNode
+returns c = rw (sym (known (c .before .before .before .before .before .before)) ∙ not-true _ (c .before .before .before .before .if1 .taken)) (record { hub = refl; replied = c .before .before .confirm .ensures })
+
+-- src/lib.rt:89:9
+confirm-requires-2 : tie.Need-confirm-requires-2
+confirm-requires-2 c κs = search needs
+
+-- src/lib.rt:91:43
+slice-aggregate-reply-at : tie.Need-slice-aggregate-reply-at
+slice-aggregate-reply-at c = search needs
+
+-- src/lib.rt:91:9
+reply-at-requires : tie.Need-reply-at-requires
+reply-at-requires c κs = 
+    let used = sym (known (c .before .before .before .before .before .before .before .before .before)) ∙ not-false _ (c .before .before .before .before .before .before .before .if1 .left) in
+    let bytes = ap (λ (x : Informed). x .bytes) (c .before .before .before .before .before .before .before .before .before .information .ensures) ∙ informed-bytes _ _ (c .before .before .before .before .before .before .before .before .before .before .before .before .pre .0) used in
+    let long = ap length bytes ∙ information-length _ _ (c .before .before .before .before .before .before .before .before .before .before .before .before .pre .0) (used-below _ _ used) in
+    let first = c .before .before .before .before .before .confirm2 .ensures .len in
+    let short = wire-short 0x0201 (0 ∷ c .before .before .before .before .before .before .before .before .before .before .before .before .args .node ∷ []) in
+    let left = replied-length _ _ _ _ (omega (arith, c .before .before .before .before .before .before .before .before .before .before .before .before .pre .1, first, short)) (c .before .before .before .before .before .confirm2 .ensures) in
+    (omega (arith, c .before .before .before .before .before .before .before .before .before .before .before .before .pre .1, long, left, first, short, wire-short 0x0210 (c .before .before .before .before .before .before .before .before .before .information .result .bytes)), omega (arith, long))
+
+-- src/lib.rt:80:1
+same-length-2 : tie.Need-same-length-2
+same-length-2 c = search needs
+
+-- src/lib.rt:80:1
+returns-2 : tie.Need-returns-2
+unfolding getNode
+returns-2 c = 
+    let used = sym (known (c .before .before .before .before .before .before .before .before .before .before .before .before)) ∙ not-false _ (c .before .before .before .before .before .before .before .before .before .before .if1 .left) in
+    let bytes = ap (λ (x : Informed). x .bytes) (c .before .before .before .before .before .before .before .before .before .before .before .before .information .ensures) ∙ informed-bytes _ _ (c .before .before .before .before .before .before .before .before .before .before .before .before .before .before .before .pre .0) used in
+    rw used (record { hub = refl; replied = both-replied _ _ _ _ _ _ _ (c .before .before .before .before .before .before .before .before .confirm2 .ensures) (rw bytes at (c .before .before .reply-at .ensures)) })
+
+pub get-node-spec : {M : Type 1} → statement M
+get-node-spec =
+    tie.close
+    (tie.spec
+    information-requires
+    confirm-requires
+    same-length
+    returns
+    confirm-requires-2
+    slice-aggregate-reply-at
+    reply-at-requires
+    same-length-2
+    returns-2)

@@ -1,0 +1,288 @@
+// The requests: a frame on a line is judged, served and answered (document 01, "The command directory", "What the commands do").
+// Hub, table, reply and the room behind it are the definition's: crate rules, specs/Hub.antt: serve.
+// It stands on the frame layer's writing, the directory, the node table, the sessions and the logins.
+ghost use Prim.Native.Nat.{_+_, _≤_};
+ghost use mathlib.Core.Path.{_≡_};
+ghost use mathlib.Core.List.{[], _∷_};
+ghost use lib.ListN.{length, take, drop, getD};
+ghost use Rattle.frame.specs.Frame.{frame, maxData, wire};
+ghost use Rattle.frame.specs.Writing.{minRoom};
+ghost use Rattle.nodes.specs.Table.{tableSize, setName, setOrderAndPlacement, setVariation};
+ghost use Rattle.sessions.specs.Sessions.{closeAll};
+ghost use Rattle.directory.specs.declared.Verdict.the-variants.{Fits};
+ghost use Rattle.directory.specs.Lookup.{verdict};
+ghost use Rattle.rules.specs.Hub.{passwordSize, errorReply, enter, getNode, nodeReply, withSlots, removeNodes, virginState, modeSend, request, mayAsk, serve};
+ghost use Rattle.requests.specs.Answers.{Replied, RepliedAt, Serves, Answered, changed, served, refusal};
+use directory::Verdict;
+use frame::Written;
+use frame::WrittenAt;
+use rules::Hub;
+use sessions::Slot;
+
+// The hub that serving leaves, and the length of the reply at the room's front.
+pub struct Served {
+    pub hub: Hub,
+    pub len: usize,
+}
+
+// A frame on a line. The call's refusals are judged before: with a table or room of another length nothing is served.
+pub fn serve(hub: Hub, table: &mut [u8], room: &mut [u8], line: u8, command: u16, payload: &[u8]) -> Served
+    ensures { λ r. ⌜ Serves (served (now (table .entry)) (now (room .entry)) hub (serve hub (now (table .entry)) line (frame command (now (payload .entry))))) (now (room .entry)) r (now (table .exit)) (now (room .exit)) ⌝ }
+{
+    if table.len() != nodes::TABLE {
+        return Served { hub: hub, len: 0 };
+    }
+    if room.len() < frame::ROOM {
+        return Served { hub: hub, len: 0 };
+    }
+    judged(hub, table, room, line, command, payload)
+}
+
+// The error reply of a packet that was refused; nothing in less room.
+pub fn refuse(room: &mut [u8]) -> usize
+    ensures { λ r. ⌜ Replied (refusal (now (room .entry))) (now (room .entry)) r (now (room .exit)) ⌝ }
+{
+    if room.len() < frame::ROOM {
+        return 0;
+    }
+    fail(room, 2)
+}
+
+// The order of document 01: command unknown, length outside its range, not logged in, not served.
+fn judged(hub: Hub, table: &mut [u8], room: &mut [u8], line: u8, command: u16, payload: &[u8]) -> Served
+    requires { ⌜ (length (now table) ≡ tableSize) × (minRoom ≤ length (now room)) ⌝ }
+    ensures { λ r. ⌜ Serves (serve hub (now (table .entry)) line (frame command (now (payload .entry)))) (now (room .entry)) r (now (table .exit)) (now (room .exit)) ⌝ }
+{
+    match directory::judge(command, payload.len()) {
+        Verdict::Unknown => {
+            let n = fail(room, 1);
+            Served { hub: hub, len: n }
+        }
+        Verdict::WrongLength => {
+            let n = fail(room, 2);
+            Served { hub: hub, len: n }
+        }
+        Verdict::Fits => {
+            let logins = hub.logins;
+            if may_ask(logins, line, command) {
+                return request(hub, table, room, line, command, payload);
+            }
+            let n = fail(room, 12);
+            Served { hub: hub, len: n }
+        }
+    }
+}
+
+fn may_ask(logins: [bool; 4], line: u8, command: u16) -> bool
+    ensures { λ r. ⌜ r ≡ mayAsk logins line command ⌝ }
+{
+    if access::is_logged_in(logins, line) {
+        return true;
+    }
+    command == 0x3000
+}
+
+// A request by its number.
+fn request(hub: Hub, table: &mut [u8], room: &mut [u8], line: u8, command: u16, payload: &[u8]) -> Served
+    requires { ⌜ (length (now table) ≡ tableSize) × (minRoom ≤ length (now room)) × (verdict command (length (now payload)) ≡ Fits) ⌝ }
+    ensures { λ r. ⌜ Serves (request hub (now (table .entry)) line command (now (payload .entry))) (now (room .entry)) r (now (table .exit)) (now (room .exit)) ⌝ }
+{
+    match command {
+        0x3000 => enter(hub, room, line, payload),
+        0x3002 => change(hub, room, payload),
+        0x0200 => get_node(hub, table, room, payload[0]),
+        0x0206 => set_variation(hub, table, room, payload),
+        0x0208 => set_name(hub, table, room, payload),
+        0x020D => set_order_and_placement(hub, table, room, payload),
+        0x0106 => remove_nodes(hub, table, room, payload),
+        0x0108 => virgin_state(hub, table, room),
+        0x0320 => mode_send(hub, table, room, line, payload),
+        _ => {
+            let n = fail(room, 1);
+            Served { hub: hub, len: n }
+        }
+    }
+}
+
+fn enter(hub: Hub, room: &mut [u8], line: u8, payload: &[u8]) -> Served
+    requires { ⌜ (minRoom ≤ length (now room)) × (length (now payload) ≡ passwordSize) ⌝ }
+    ensures { λ r. ⌜ Answered (enter hub line (now (payload .entry)) .hub) (wire 0x3001 (enter hub line (now (payload .entry)) .status ∷ [])) (now (room .entry)) r (now (room .exit)) ⌝ }
+{
+    let given = password_at(payload, 0);
+    let entered = access::enter(hub, line, given);
+    let next = entered.hub;
+    let status = [entered.status];
+    let n = reply(room, 0x3001, &status);
+    Served { hub: next, len: n }
+}
+
+fn change(hub: Hub, room: &mut [u8], payload: &[u8]) -> Served
+    requires { ⌜ (minRoom ≤ length (now room)) × (length (now payload) ≡ passwordSize + passwordSize) ⌝ }
+    ensures { λ r. ⌜ Answered (changed hub (now (payload .entry)) .hub) (wire 0x3003 (changed hub (now (payload .entry)) .status ∷ [])) (now (room .entry)) r (now (room .exit)) ⌝ }
+{
+    let old = password_at(payload, 0);
+    let new = password_at(payload, rules::PASSWORD);
+    let entered = access::change(hub, old, new);
+    let next = entered.hub;
+    let status = [entered.status];
+    let n = reply(room, 0x3003, &status);
+    Served { hub: next, len: n }
+}
+
+fn password_at(payload: &[u8], at: usize) -> [u8; 32]
+    requires { ⌜ at + passwordSize ≤ length (now payload) ⌝ }
+    ensures { λ r. ⌜ r ≡ take passwordSize (drop at (now (payload .entry))) ⌝ }
+{
+    let mut out = [0u8; 32];
+    store::copy(&mut out, 0, &payload[at..at + rules::PASSWORD]);
+    out
+}
+
+fn get_node(hub: Hub, table: &[u8], room: &mut [u8], node: u8) -> Served
+    requires { ⌜ (length (now table) ≡ tableSize) × (minRoom ≤ length (now room)) ⌝ }
+    ensures { λ r. ⌜ Answered hub (getNode hub (now (table .entry)) node .reply) (now (room .entry)) r (now (room .exit)) ⌝ }
+{
+    let informed = nodes::information(table, node);
+    if !informed.known {
+        let refused = confirm(room, 0x0201, 2, node);
+        return Served { hub: hub, len: refused };
+    }
+    let first = confirm(room, 0x0201, 0, node);
+    let bytes = informed.bytes;
+    let n = reply_at(room, first, 0x0210, &bytes);
+    Served { hub: hub, len: n }
+}
+
+fn set_variation(hub: Hub, table: &mut [u8], room: &mut [u8], payload: &[u8]) -> Served
+    requires { ⌜ (minRoom ≤ length (now room)) × (length (now payload) ≡ 2) ⌝ }
+    ensures { λ r. ⌜ Serves (nodeReply hub 0x0207 (getD (now (payload .entry)) 0 0) (setVariation (now (table .entry)) (getD (now (payload .entry)) 0 0) (getD (now (payload .entry)) 1 0))) (now (room .entry)) r (now (table .exit)) (now (room .exit)) ⌝ }
+{
+    let node = payload[0];
+    let status = nodes::set_variation(table, node, payload[1]);
+    let n = confirm(room, 0x0207, status, node);
+    Served { hub: hub, len: n }
+}
+
+fn set_name(hub: Hub, table: &mut [u8], room: &mut [u8], payload: &[u8]) -> Served
+    requires { ⌜ (minRoom ≤ length (now room)) × (1 ≤ length (now payload)) ⌝ }
+    ensures { λ r. ⌜ Serves (nodeReply hub 0x0209 (getD (now (payload .entry)) 0 0) (setName (now (table .entry)) (getD (now (payload .entry)) 0 0) (drop 1 (now (payload .entry))))) (now (room .entry)) r (now (table .exit)) (now (room .exit)) ⌝ }
+{
+    let node = payload[0];
+    let status = nodes::set_name(table, node, &payload[1..]);
+    let n = confirm(room, 0x0209, status, node);
+    Served { hub: hub, len: n }
+}
+
+fn set_order_and_placement(hub: Hub, table: &mut [u8], room: &mut [u8], payload: &[u8]) -> Served
+    requires { ⌜ (minRoom ≤ length (now room)) × (1 ≤ length (now payload)) ⌝ }
+    ensures { λ r. ⌜ Serves (nodeReply hub 0x020E (getD (now (payload .entry)) 0 0) (setOrderAndPlacement (now (table .entry)) (getD (now (payload .entry)) 0 0) (drop 1 (now (payload .entry))))) (now (room .entry)) r (now (table .exit)) (now (room .exit)) ⌝ }
+{
+    let node = payload[0];
+    let status = nodes::set_order_and_placement(table, node, &payload[1..]);
+    let n = confirm(room, 0x020E, status, node);
+    Served { hub: hub, len: n }
+}
+
+fn remove_nodes(hub: Hub, table: &mut [u8], room: &mut [u8], bits: &[u8]) -> Served
+    requires { ⌜ minRoom ≤ length (now room) ⌝ }
+    ensures { λ r. ⌜ Serves (removeNodes hub (now (table .entry)) (now (bits .entry))) (now (room .entry)) r (now (table .exit)) (now (room .exit)) ⌝ }
+{
+    let slots = hub.slots;
+    let left = sessions::close_removed(slots, table, bits);
+    nodes::remove(table, bits);
+    let scene_deleted = [0];
+    let n = reply(room, 0x0107, &scene_deleted);
+    let next = with_slots(hub, left);
+    Served { hub: next, len: n }
+}
+
+fn virgin_state(hub: Hub, table: &mut [u8], room: &mut [u8]) -> Served
+    requires { ⌜ minRoom ≤ length (now room) ⌝ }
+    ensures { λ r. ⌜ Serves (virginState hub (now (table .entry))) (now (room .entry)) r (now (table .exit)) (now (room .exit)) ⌝ }
+{
+    nodes::empty(table);
+    let nothing: [u8; 0] = [];
+    let n = reply(room, 0x0109, &nothing);
+    let slots = hub.slots;
+    let left = close_all(slots);
+    let next = with_slots(hub, left);
+    Served { hub: next, len: n }
+}
+
+fn close_all(slots: [Slot; 8]) -> [Slot; 8]
+    ensures { λ r. ⌜ r ≡ closeAll slots ⌝ }
+{
+    sessions::none()
+}
+
+fn mode_send(hub: Hub, table: &[u8], room: &mut [u8], line: u8, payload: &[u8]) -> Served
+    requires { ⌜ (minRoom ≤ length (now room)) × (2 ≤ length (now payload)) ⌝ }
+    ensures { λ r. ⌜ Answered (modeSend hub (now (table .entry)) line (now (payload .entry)) .hub) (modeSend hub (now (table .entry)) line (now (payload .entry)) .reply) (now (room .entry)) r (now (room .exit)) ⌝ }
+{
+    let slots = hub.slots;
+    let asked = sessions::request(payload);
+    let sent = sessions::mode_send(slots, table, line, asked);
+    let left = sent.slots;
+    let confirm = [
+        payload[0],
+        payload[1],
+        sent.status,
+    ];
+    let n = reply(room, 0x0321, &confirm);
+    let next = with_slots(hub, left);
+    Served { hub: next, len: n }
+}
+
+fn with_slots(hub: Hub, slots: [Slot; 8]) -> Hub
+    ensures { λ r. ⌜ r ≡ withSlots hub slots ⌝ }
+{
+    let password = hub.password;
+    let logins = hub.logins;
+    Hub {
+        password: password,
+        logins: logins,
+        slots: slots,
+    }
+}
+
+// The error frame with one byte.
+fn fail(room: &mut [u8], error: u8) -> usize
+    requires { ⌜ minRoom ≤ length (now room) ⌝ }
+    ensures { λ r. ⌜ Replied (errorReply error) (now (room .entry)) r (now (room .exit)) ⌝ }
+{
+    let bytes = [error];
+    reply(room, 0x0000, &bytes)
+}
+
+// A confirm with status and node.
+fn confirm(room: &mut [u8], command: u16, status: u8, node: u8) -> usize
+    requires { ⌜ minRoom ≤ length (now room) ⌝ }
+    ensures { λ r. ⌜ Replied (wire command (status ∷ node ∷ [])) (now (room .entry)) r (now (room .exit)) ⌝ }
+{
+    let bytes = [status, node];
+    reply(room, command, &bytes)
+}
+
+// One frame at the room's front.
+fn reply(room: &mut [u8], command: u16, payload: &[u8]) -> usize
+    requires { ⌜ (minRoom ≤ length (now room)) × (length (now payload) ≤ maxData) ⌝ }
+    ensures { λ r. ⌜ Replied (wire command (now (payload .entry))) (now (room .entry)) r (now (room .exit)) ⌝ }
+{
+    match frame::write(room, command, payload) {
+        Written::Length(n) => n,
+        Written::ShortRoom => 0,
+        Written::LongData => 0,
+    }
+}
+
+// One frame more behind the first.
+fn reply_at(room: &mut [u8], start: usize, command: u16, payload: &[u8]) -> usize
+    requires { ⌜ (start + length (wire command (now payload)) ≤ length (now room)) × (length (now payload) ≤ maxData) ⌝ }
+    ensures { λ r. ⌜ RepliedAt start (wire command (now (payload .entry))) (now (room .entry)) r (now (room .exit)) ⌝ }
+{
+    match frame::write_at(room, start, command, payload) {
+        WrittenAt::UpTo(n) => n,
+        WrittenAt::NoFit => start,
+        WrittenAt::LongData => start,
+    }
+}

@@ -1,0 +1,279 @@
+-- The hub (document 01, "The command directory", "What the commands do", host calls, "Numbers of refusal").
+use Prim.Native.Nat.{ℕ, _/_, _%_}
+use mathlib.Core.List.{List, [], _∷_, _++_}
+use mathlib.Core.Bool.{Bool, true, false, cond, not, _&&_, _||_}
+use mathlib.Core.Option.{Option, none, some}
+use lib.ListN.{length, take, drop, set, getD, replicate}
+use lib.Dec.{ltb, eqb}
+use Rattle.frame.specs.Frame.{Outcome, frame, refused, wire}
+use Rattle.frame.specs.Reading.{State, emptied}
+use Rattle.frame.specs.Writing.{minRoom}
+use Rattle.nodes.specs.Table as table
+use Rattle.sessions.specs.Sessions as sessions
+use Rattle.sessions.specs.declared.Slot.{Slot}
+use Rattle.directory.specs.declared.Verdict.{Verdict}
+use Rattle.directory.specs.declared.Verdict.the-variants as verdicts
+use Rattle.directory.specs.Lookup as directory
+use Rattle.feeds.specs.System.{Served, System}
+use Rattle.rules.specs.declared.Hub.{Hub}
+
+abbrev pub lineCount : ℕ
+lineCount = 4
+
+abbrev pub passwordSize : ℕ
+passwordSize = 32
+
+-- ---- numbers of refusal, of the calls
+
+abbrev pub wrongTable : ℕ
+wrongTable = 7
+
+abbrev pub wrongLine : ℕ
+wrongLine = 8
+
+abbrev pub shortRoom : ℕ
+shortRoom = 9
+
+abbrev pub wrongNode : ℕ
+wrongNode = 11
+
+abbrev pub nodeInUse : ℕ
+nodeInUse = 12
+
+abbrev pub notOpen : ℕ
+notOpen = 13
+
+abbrev pub wrongPassword : ℕ
+wrongPassword = 14
+
+-- the first refusal of a list of tests that applies
+abbrev pub refuseIf : Bool → ℕ → Option ℕ → Option ℕ
+refuseIf t n o = cond t (some n) o
+
+-- what serving an outcome leaves and writes
+abbrev pub Reply : Type 0
+Reply = Served Hub (List ℕ)
+
+-- ---- error frames
+
+-- the error frame 0000 with one byte
+abbrev pub errorReply : ℕ → List ℕ
+errorReply e = wire 0x0000 (e ∷ [])
+
+abbrev pub unknownCommand : ℕ
+unknownCommand = 1
+
+abbrev pub frameError : ℕ
+frameError = 2
+
+abbrev pub notLoggedIn : ℕ
+notLoggedIn = 12
+
+-- none of these changes anything
+abbrev pub failure : Hub → List ℕ → ℕ → Reply
+failure h t e = record { hub = h; table = t; reply = errorReply e }
+
+-- what a verdict of the directory chooses
+abbrev pub byVerdict : Verdict → Reply → Reply → Reply → Reply
+byVerdict verdicts.Unknown a b x = a
+byVerdict verdicts.WrongLength a b x = b
+byVerdict verdicts.Fits a b x = x
+
+-- ---- password enter and change
+
+-- what a password request answers, and the hub that it leaves
+pub record Password : Type 0 where
+  pub status : ℕ
+  pub hub : Hub
+
+-- all bytes are compared
+unfoldable pub same : List ℕ → List ℕ → Bool
+same [] [] = true
+same [] (y ∷ ys) = false
+same (x ∷ xs) [] = false
+same (x ∷ xs) (y ∷ ys) = eqb x y && same xs ys
+
+abbrev pub correct : ℕ
+correct = 0
+
+abbrev pub incorrect : ℕ
+incorrect = 1
+
+-- equal gives status 0 and logs the line in; otherwise status 1 and the login stays as it was
+unfoldable pub enter : Hub → ℕ → List ℕ → Password
+enter h l d =
+    cond (same d (h .password))
+    (record { status = correct; hub = record { password = h .password; logins = set (h .logins) l true; slots = h .slots } })
+    (record { status = incorrect; hub = h })
+
+-- the first 32 must equal the password, then the last 32 become it, status 0; otherwise status 1
+unfoldable pub change : Hub → List ℕ → List ℕ → Password
+change h old new =
+    cond (same old (h .password))
+    (record { status = correct; hub = record { password = new; logins = h .logins; slots = h .slots } })
+    (record { status = incorrect; hub = h })
+
+-- ---- requests
+
+abbrev pub withSlots : Hub → List Slot → Hub
+withSlots h ss = record { password = h .password; logins = h .logins; slots = ss }
+
+-- a reply of one frame
+abbrev pub reply : Hub → List ℕ → ℕ → List ℕ → Reply
+reply h t c d = record { hub = h; table = t; reply = wire c d }
+
+-- a confirm with status and node, as the node was sent
+abbrev pub nodeReply : Hub → ℕ → ℕ → table.Result → Reply
+nodeReply h c n r = reply h (r .table) c (r .status ∷ n ∷ [])
+
+-- 0201: status 2 for a node above 199 or not in use; otherwise status 0, and then frame 0210
+unfoldable pub getNode : Hub → List ℕ → ℕ → Reply
+getNode h t n =
+    cond (table.inUse t n)
+    (record { hub = h; table = t; reply = wire 0x0201 (table.accepted ∷ n ∷ []) ++ wire 0x0210 (table.information t n) })
+    (reply h t 0x0201 (table.invalidNode ∷ n ∷ []))
+
+-- SceneDeleted is 0
+unfoldable pub removeNodes : Hub → List ℕ → List ℕ → Reply
+removeNodes h t d = reply (withSlots h (sessions.closeRemoved t d (h .slots))) (table.remove d t) 0x0107 (0 ∷ [])
+
+-- virgin state zeroes the table and closes all sessions; logins and password stay
+unfoldable pub virginState : Hub → List ℕ → Reply
+virginState h t = reply (withSlots h (sessions.closeAll (h .slots))) (table.emptied t) 0x0109 []
+
+-- 0321: session, status
+unfoldable pub modeSend : Hub → List ℕ → ℕ → List ℕ → Reply
+modeSend h t l d =
+    let r = sessions.modeSend (h .slots) t l (sessions.modeSendOf d) in
+    reply (withSlots h (r .slots)) t 0x0321 (getD d 0 0 ∷ getD d 1 0 ∷ r .status ∷ [])
+
+-- the requests served, by their numbers; known but not served is error 1
+unfoldable pub request : Hub → List ℕ → ℕ → ℕ → List ℕ → Reply
+request h t l c d =
+    let n = getD d 0 0 in
+    cond (eqb c 0x3000) (let r = enter h l d in reply (r .hub) t 0x3001 (r .status ∷ []))
+    (cond (eqb c 0x3002) (let r = change h (take passwordSize d) (drop passwordSize d) in reply (r .hub) t 0x3003 (r .status ∷ []))
+    (cond (eqb c 0x0200) (getNode h t n)
+    (cond (eqb c 0x0206) (nodeReply h 0x0207 n (table.setVariation t n (getD d 1 0)))
+    (cond (eqb c 0x0208) (nodeReply h 0x0209 n (table.setName t n (drop 1 d)))
+    (cond (eqb c 0x020D) (nodeReply h 0x020E n (table.setOrderAndPlacement t n (drop 1 d)))
+    (cond (eqb c 0x0106) (removeNodes h t d)
+    (cond (eqb c 0x0108) (virginState h t)
+    (cond (eqb c 0x0320) (modeSend h t l d)
+    (failure h t unknownCommand)))))))))
+
+-- ---- each outcome on a line
+
+abbrev pub isListed : List Bool → ℕ → Bool
+isListed logins l = getD logins l false
+
+abbrev pub isLoggedIn : Hub → ℕ → Bool
+isLoggedIn h l = isListed (h .logins) l
+
+-- a line that is not logged in may enter the password only
+abbrev pub mayAsk : List Bool → ℕ → ℕ → Bool
+mayAsk logins l c = isListed logins l || eqb c 0x3000
+
+-- judged in this order: packet refused, 2; command unknown, 1; data length outside the directory's range, 2; not logged in and not
+-- password enter, 12; known but not served, 1
+unfoldable pub serve : Hub → List ℕ → ℕ → Outcome → Reply
+serve h t l (refused n) = failure h t frameError
+serve h t l (frame c d) =
+    byVerdict (directory.verdict c (length d))
+    (failure h t unknownCommand)
+    (failure h t frameError)
+    (cond (mayAsk (h .logins) l c) (request h t l c d) (failure h t notLoggedIn))
+
+-- ---- host calls
+
+-- start (password, table): zeroes the table, nobody logged in, no session
+pub record Started : Type 0 where
+  pub refusal : Option ℕ
+  pub hub : Hub
+  pub table : List ℕ
+
+abbrev pub freshHub : List ℕ → Hub
+freshHub p = record { password = p; logins = replicate lineCount false; slots = replicate sessions.slotCount sessions.closedSlot }
+
+-- the hub before any start
+abbrev pub firstHub : Hub
+firstHub = freshHub (replicate passwordSize 0)
+
+abbrev pub startRefusal : List ℕ → List ℕ → Option ℕ
+startRefusal t p = refuseIf (not (eqb (length t) table.tableSize)) wrongTable (refuseIf (not (eqb (length p) passwordSize)) wrongPassword none)
+
+abbrev pub startBy : Option ℕ → Hub → List ℕ → List ℕ → Started
+startBy (some n) h t p = record { refusal = some n; hub = h; table = t }
+startBy none h t p = record { refusal = none; hub = freshHub p; table = table.emptied t }
+
+abbrev pub start : Hub → List ℕ → List ℕ → Started
+start h t p = startBy (startRefusal t p) h t p
+
+-- enrol (node, type)
+pub record Enrolled : Type 0 where
+  pub refusal : Option ℕ
+  pub table : List ℕ
+
+abbrev pub enrolRefusal : List ℕ → ℕ → Option ℕ
+enrolRefusal t n =
+    refuseIf (not (eqb (length t) table.tableSize)) wrongTable
+    (refuseIf (not (table.isNode n)) wrongNode (refuseIf (table.inUse t n) nodeInUse none))
+
+abbrev pub enrolBy : Option ℕ → List ℕ → ℕ → ℕ → Enrolled
+enrolBy (some r) t n type = record { refusal = some r; table = t }
+enrolBy none t n type = record { refusal = none; table = table.enrolled t n type }
+
+abbrev pub enrol : List ℕ → ℕ → ℕ → Enrolled
+enrol t n type = enrolBy (enrolRefusal t n) t n type
+
+-- close a line: login lost, reading state emptied, its sessions closed
+pub record Closed : Type 0 where
+  pub refusal : Option ℕ
+  pub hub : Hub
+  pub state : State
+
+abbrev pub closeRefusal : ℕ → Option ℕ
+closeRefusal l = refuseIf (not (ltb l lineCount)) wrongLine none
+
+abbrev pub closedLine : Hub → ℕ → Hub
+closedLine h l = record { password = h .password; logins = set (h .logins) l false; slots = sessions.closeLine l (h .slots) }
+
+abbrev pub closeBy : Option ℕ → Hub → State → ℕ → Closed
+closeBy (some n) h s l = record { refusal = some n; hub = h; state = s }
+closeBy none h s l = record { refusal = none; hub = closedLine h l; state = emptied }
+
+abbrev pub close : Hub → State → ℕ → Closed
+close h s l = closeBy (closeRefusal l) h s l
+
+-- finish a session by number: closes it, writes frame 0304 with its number, tells its line and the reply's length
+pub data Finish : Type 0 where
+  refusedFinish : ℕ → Finish
+  finishedOn : ℕ → ℕ → Finish
+
+unfoldable pub notice : ℕ → List ℕ
+notice x = wire 0x0304 (x / 256 ∷ x % 256 ∷ [])
+
+pub record Finished : Type 0 where
+  pub answer : Finish
+  pub hub : Hub
+  pub reply : List ℕ
+
+abbrev pub finishBy : Bool → Option sessions.Finished → Hub → ℕ → Finished
+finishBy true o h x = record { answer = refusedFinish shortRoom; hub = h; reply = [] }
+finishBy false none h x = record { answer = refusedFinish notOpen; hub = h; reply = [] }
+finishBy false (some f) h x = record { answer = finishedOn (f .line) (length (notice x)); hub = withSlots h (f .slots); reply = notice x }
+
+abbrev pub finish : Hub → ℕ → ℕ → Finished
+finish h x room = finishBy (ltb room minRoom) (sessions.finish (h .slots) x) h x
+
+-- ---- feed
+
+-- when a feed is refused: the table's length, the line, the room
+abbrev pub feedRefusal : List ℕ → ℕ → ℕ → Option ℕ
+feedRefusal t l room =
+    refuseIf (not (eqb (length t) table.tableSize)) wrongTable
+    (refuseIf (not (ltb l lineCount)) wrongLine (refuseIf (ltb room minRoom) shortRoom none))
+
+-- this hub, as a system of feeds
+abbrev pub hub : System
+hub = record { Hub = Hub; Table = List ℕ; serve = serve; refusal = λ h t s l bytes room. feedRefusal t l room }

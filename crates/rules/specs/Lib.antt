@@ -1,0 +1,15 @@
+pub mod Hub
+pub mod Cases
+pub mod Refusals
+pub mod Guard
+pub mod Promises
+pub mod Calls
+pub mod Logins
+pub mod Demand3
+pub mod Lengths
+pub mod Feeds
+pub mod Examples
+pub mod Demand3Example
+pub mod PasswordLaws
+pub mod OneHolder
+pub mod Replies

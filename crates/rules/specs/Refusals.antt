@@ -1,0 +1,52 @@
+-- Demand 1, over the definitions: a refused call changes nothing; a refused packet brings one error reply only.
+use Prim.Native.Nat.{ℕ}
+use mathlib.Core.Path.{_≡_, refl, ap}
+use mathlib.Core.List.{List, []}
+use mathlib.Core.Option.{Option, none, some}
+use mathlib.Core.Bool.{Bool, true, false}
+use native.Mathlib.Omega.{arith}
+use Rattle.frame.specs.Frame.{refused}
+use Rattle.frame.specs.Reading.{State}
+use lib.Dec.{ltb}
+use Rattle.frame.specs.Writing.{minRoom}
+use Rattle.sessions.specs.Sessions as sessions
+use Rattle.rules.specs.declared.Hub.{Hub}
+use Rattle.rules.specs.Hub.{errorReply, frameError, serve, startRefusal, startBy, start, enrolRefusal, enrolBy, enrol, closeRefusal, closeBy, close, Finish, refusedFinish, Finished, finishBy, finish, hub}
+
+-- start gives back the hub and the table that it was lent
+pub start-refused : (h : Hub) (t p : List ℕ) (n : ℕ) → start h t p .refusal ≡ some n → start h t p ≡ record { refusal = some n; hub = h; table = t }
+start-refused h t p n e = go (startRefusal t p) e
+  where
+    go : (o : Option ℕ) → startBy o h t p .refusal ≡ some n → startBy o h t p ≡ record { refusal = some n; hub = h; table = t }
+    go (some m) e = ap (λ (x : Option ℕ). record { refusal = x; hub = h; table = t }) e
+    go none e = let z : _≡_ {A = ℕ} 0 1 = cc in absurd (omega arith)
+
+-- enrol gives back the table
+pub enrol-refused : (t : List ℕ) (k type n : ℕ) → enrol t k type .refusal ≡ some n → enrol t k type ≡ record { refusal = some n; table = t }
+enrol-refused t k type n e = go (enrolRefusal t k) e
+  where
+    go : (o : Option ℕ) → enrolBy o t k type .refusal ≡ some n → enrolBy o t k type ≡ record { refusal = some n; table = t }
+    go (some m) e = ap (λ (x : Option ℕ). record { refusal = x; table = t }) e
+    go none e = let z : _≡_ {A = ℕ} 0 1 = cc in absurd (omega arith)
+
+-- closing a line gives back the hub and the reading state
+pub close-refused : (h : Hub) (s : State) (l n : ℕ) → close h s l .refusal ≡ some n → close h s l ≡ record { refusal = some n; hub = h; state = s }
+close-refused h s l n e = go (closeRefusal l) e
+  where
+    go : (o : Option ℕ) → closeBy o h s l .refusal ≡ some n → closeBy o h s l ≡ record { refusal = some n; hub = h; state = s }
+    go (some m) e = ap (λ (x : Option ℕ). record { refusal = x; hub = h; state = s }) e
+    go none e = let z : _≡_ {A = ℕ} 0 1 = cc in absurd (omega arith)
+
+-- finish gives back the hub, and writes nothing
+pub finish-refused : (h : Hub) (x room n : ℕ) → finish h x room .answer ≡ refusedFinish n → finish h x room ≡ record { answer = refusedFinish n; hub = h; reply = [] }
+finish-refused h x room n e = go (ltb room minRoom) (sessions.finish (h .slots) x) e
+  where
+    go : (b : Bool) (o : Option sessions.Finished) → finishBy b o h x .answer ≡ refusedFinish n → finishBy b o h x ≡ record { answer = refusedFinish n; hub = h; reply = [] }
+    go true o e = ap (λ (a : Finish). record { answer = a; hub = h; reply = [] }) e
+    go false none e = ap (λ (a : Finish). record { answer = a; hub = h; reply = [] }) e
+    go false (some f) e = let z : _≡_ {A = ℕ} 0 1 = cc in absurd (omega arith)
+
+-- a refused packet brings the error frame with byte 2, and leaves hub and table
+pub serve-refused : (h : Hub) (t : List ℕ) (l n : ℕ) → serve h t l (refused n) ≡ record { hub = h; table = t; reply = errorReply frameError }
+unfolding serve
+serve-refused h t l n = refl
