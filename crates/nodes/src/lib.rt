@@ -213,11 +213,7 @@ pub fn enrol(table: &mut [u8], node: u8, kind: u16)
     ensures { λ r. ⌜ now (table .exit) ≡ enrolled (now (table .entry)) node kind ⌝ }
 {
     let at = (node as usize) * RECORD;
-    let front = [
-        1,
-        (kind / 256) as u8,
-        (kind % 256) as u8,
-    ];
+    let front = [1, (kind / 256) as u8, (kind % 256) as u8];
     store::copy(table, at, &front);
     store::fill(table, at + 3, RECORD - 3, 0);
 }

@@ -1,18 +1,15 @@
 -- Laws of the requests: how long the data of each are, and what they leave.
 use Prim.Native.Nat.{ℕ}
-use mathlib.Core.Path.{_≡_, refl, ap}
+use mathlib.Core.Path.{_≡_, refl}
 use mathlib.Core.List.{List, [], _∷_, _++_}
 use mathlib.Core.Bool.{Bool, true, false, cond}
 use native.Mathlib.Omega.{arith}
-use lib.ListN.{length, replicate}
 use Rattle.frame.specs.Frame.{wire}
 use Rattle.directory.specs.declared.Verdict.the-variants.{Fits}
 use Rattle.directory.specs.Directory.{directory}
 use Rattle.directory.specs.Lookup.{find, verdict}
 use Rattle.directory.specs.DirectoryLaws.{fits-range}
 use Rattle.nodes.specs.Table.{inUse, information}
-use Rattle.sessions.specs.declared.Slot.{Slot}
-use Rattle.sessions.specs.Sessions.{closedSlot, closeAll}
 use Rattle.rules.specs.declared.Hub.{Hub}
 use Rattle.rules.specs.Hub.{Reply, getNode}
 
@@ -58,8 +55,3 @@ getNode-kept h t n = go (inUse t n)
         × (cond {A = Reply} b (record { hub = h; table = t; reply = wire 0x0201 (0 ∷ n ∷ []) ++ wire 0x0210 (information t n) }) (record { hub = h; table = t; reply = wire 0x0201 (2 ∷ n ∷ []) }) .table ≡ t)
     go true = (refl, refl)
     go false = (refl, refl)
-
--- all slots closed are as many free ones
-pub closeAll-free : (ss : List Slot) → closeAll ss ≡ replicate (length ss) closedSlot
-closeAll-free [] = refl
-closeAll-free (s ∷ ss) = ap (λ (l : List Slot). closedSlot ∷ l) (closeAll-free ss)

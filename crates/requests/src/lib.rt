@@ -26,7 +26,14 @@ pub struct Served {
 }
 
 // A frame on a line. The call's refusals are judged before: with a table or room of another length nothing is served.
-pub fn serve(hub: Hub, table: &mut [u8], room: &mut [u8], line: u8, command: u16, payload: &[u8]) -> Served
+pub fn serve(
+    hub: Hub,
+    table: &mut [u8],
+    room: &mut [u8],
+    line: u8,
+    command: u16,
+    payload: &[u8],
+) -> Served
     ensures { λ r. ⌜ Serves (served (now (table .entry)) (now (room .entry)) hub (serve hub (now (table .entry)) line (frame command (now (payload .entry))))) (now (room .entry)) r (now (table .exit)) (now (room .exit)) ⌝ }
 {
     if table.len() != nodes::TABLE {
@@ -49,7 +56,14 @@ pub fn refuse(room: &mut [u8]) -> usize
 }
 
 // The order of document 01: command unknown, length outside its range, not logged in, not served.
-fn judged(hub: Hub, table: &mut [u8], room: &mut [u8], line: u8, command: u16, payload: &[u8]) -> Served
+fn judged(
+    hub: Hub,
+    table: &mut [u8],
+    room: &mut [u8],
+    line: u8,
+    command: u16,
+    payload: &[u8],
+) -> Served
     requires { ⌜ (length (now table) ≡ tableSize) × (minRoom ≤ length (now room)) ⌝ }
     ensures { λ r. ⌜ Serves (serve hub (now (table .entry)) line (frame command (now (payload .entry)))) (now (room .entry)) r (now (table .exit)) (now (room .exit)) ⌝ }
 {
@@ -83,7 +97,14 @@ fn may_ask(logins: [bool; 4], line: u8, command: u16) -> bool
 }
 
 // A request by its number.
-fn request(hub: Hub, table: &mut [u8], room: &mut [u8], line: u8, command: u16, payload: &[u8]) -> Served
+fn request(
+    hub: Hub,
+    table: &mut [u8],
+    room: &mut [u8],
+    line: u8,
+    command: u16,
+    payload: &[u8],
+) -> Served
     requires { ⌜ (length (now table) ≡ tableSize) × (minRoom ≤ length (now room)) × (verdict command (length (now payload)) ≡ Fits) ⌝ }
     ensures { λ r. ⌜ Serves (request hub (now (table .entry)) line command (now (payload .entry))) (now (room .entry)) r (now (table .exit)) (now (room .exit)) ⌝ }
 {
@@ -145,7 +166,10 @@ fn get_node(hub: Hub, table: &[u8], room: &mut [u8], node: u8) -> Served
     let informed = nodes::information(table, node);
     if !informed.known {
         let refused = confirm(room, 0x0201, 2, node);
-        return Served { hub: hub, len: refused };
+        return Served {
+            hub: hub,
+            len: refused,
+        };
     }
     let first = confirm(room, 0x0201, 0, node);
     let bytes = informed.bytes;
@@ -223,11 +247,7 @@ fn mode_send(hub: Hub, table: &[u8], room: &mut [u8], line: u8, payload: &[u8]) 
     let asked = sessions::request(payload);
     let sent = sessions::mode_send(slots, table, line, asked);
     let left = sent.slots;
-    let confirm = [
-        payload[0],
-        payload[1],
-        sent.status,
-    ];
+    let confirm = [payload[0], payload[1], sent.status];
     let n = reply(room, 0x0321, &confirm);
     let next = with_slots(hub, left);
     Served { hub: next, len: n }

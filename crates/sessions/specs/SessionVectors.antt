@@ -1,4 +1,4 @@
--- Each status of mode send, computed: all nodes are in use, and session 1 on line 0 holds node 199.
+-- Mode send, finish and remove nodes, computed: all nodes are in use, and session 1 on line 0 holds node 199.
 use Prim.Native.Nat.{ℕ, _-_}
 use mathlib.Core.Path.{_≡_, refl}
 use mathlib.Core.List.{List, [], _∷_, _++_}

@@ -10,7 +10,7 @@ use Rattle.access.proofs.is_logged_in.Lts as lts
 
 -- src/lib.rt:69:9
 returns : tie.Need-returns
-returns c = 
+returns c =
     let long : length (c .before .args .t1) ≡ 4 = search needs in
     sym (List·getD-eq-default (c .before .args .t1) false (omega (arith, c .if1 .taken)))
 

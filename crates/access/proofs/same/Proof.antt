@@ -35,7 +35,7 @@ array-read-if1-2 c = search needs
 
 -- src/lib.rt:94:13
 returns : tie.Need-returns Inv-loop μ-loop
-returns c = 
+returns c =
     let l = lengths (c .before .before) in
     sym (c .before .before .loop .inv .1 ∙ same-not (c .before .before .before .args .t1) (c .before .before .before .args .t2) (c .before .before .loop .i) (omega (arith, l .0, c .before .loop-test .taken)) (omega (arith, l .1, c .before .loop-test .taken)) (ne-eqb _ _ (c .if1 .taken)))
 
@@ -49,13 +49,13 @@ loop-less c = search needs
 
 -- src/lib.rt:92:5
 loop-again : tie.Need-loop-again Inv-loop μ-loop
-loop-again c = 
+loop-again c =
     let l = lengths (c .before .before) in
     (search needs, c .before .before .loop .inv .1 ∙ same-on (c .before .before .before .args .t1) (c .before .before .before .args .t2) (c .before .before .loop .i) (omega (arith, l .0, c .before .loop-test .taken)) (omega (arith, l .1, c .before .loop-test .taken)) (eq-eqb _ _ (c .if1 .left)))
 
 -- src/lib.rt:88:1
 returns-2 : tie.Need-returns-2 Inv-loop μ-loop
-returns-2 c = 
+returns-2 c =
     let l = lengths (c .before) in
     sym (c .before .loop .inv .1 ∙ same-end (c .before .before .args .t1) (c .before .before .args .t2) (c .before .loop .i) (omega (arith, l .0, c .loop-test .left)) (omega (arith, l .1, c .loop-test .left)))
 

@@ -10,7 +10,7 @@ use Rattle.access.proofs.with_login.Lts as lts
 
 -- src/lib.rt:80:9
 returns : tie.Need-returns
-returns c = 
+returns c =
     let long : length (c .before .args .logins) ≡ 4 = search needs in
     sym (set-out (c .before .args .logins) (c .before .args .line) (c .before .args .value) (omega (arith, c .if1 .taken)))
 

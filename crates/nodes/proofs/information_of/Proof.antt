@@ -94,7 +94,7 @@ fill-requires-3 c κs = search needs
 -- src/lib.rt:126:1
 returns : tie.Need-returns
 unfolding information
-returns c = 
+returns c =
     let zeros = replicate {A = ℕ} informationSize 0 in
     let order = then (one zeros 0 (c .before .before .before .before .before .before .before .before .before .before .before .before .before .before .before .before .before .before .before .before .before .before .before .before .before .args .node)) (c .before .before .before .before .before .before .before .before .before .before .before .before .before .before .before .before .before .before .before .before .before .before .put-field .ensures .0) in
     let placement = then order (c .before .before .before .before .before .before .before .before .before .before .before .before .before .before .before .before .before .before .before .put-field2 .ensures .0) in

@@ -47,7 +47,7 @@ same-length c = search needs
 
 -- src/lib.rt:145:1
 returns : tie.Need-returns
-returns c = 
+returns c =
     let q = c .before .before .before .before .before .before .before .before .pre in
     let start = c .before .before .before .before .before .before .before .before .args .node * 72 + c .before .before .before .before .before .before .before .before .args .field .at in
     let e : start + c .before .before .before .before .before .before .before .before .args .field .size - start ≡ c .before .before .before .before .before .before .before .before .args .field .size = omega arith in

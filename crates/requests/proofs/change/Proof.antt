@@ -39,7 +39,7 @@ same-length c = search needs
 
 -- src/lib.rt:58:1
 returns : tie.Need-returns
-returns c = 
+returns c =
     let d = c .before .before .before .before .before .before .before .before .before .before .before .args .payload .now in
     let h : length (drop passwordSize d) ≤ passwordSize = simp length-drop (omega (arith, c .before .before .before .before .before .before .before .before .before .before .before .pre .1)) in
     let e = c .before .before .before .before .before .before .before .password-at2 .ensures ∙ take-all passwordSize (drop passwordSize d) h in

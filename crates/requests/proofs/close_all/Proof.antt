@@ -1,7 +1,7 @@
-use Rattle.requests.proofs.Laws.{closeAll-free}
+use Rattle.sessions.specs.SessionLaws.{closeAll-free}
 use Rattle.sessions.specs.Sessions.{closedSlot, closeAll}
 use lib.ListN.{length, replicate}
-use mathlib.Core.Path.{_≡_, _∙_}
+use mathlib.Core.Path.{_≡_, _∙_, sym}
 use borrow.Author.Needs.{needs}
 use Rattle.requests.proofs.close_all.Statement.{statement}
 use Rattle.requests.proofs.close_all.Tie as tie
@@ -15,9 +15,9 @@ none-requires c κs = search needs
 
 -- src/lib.rt:212:1
 returns : tie.Need-returns
-returns c = 
+returns c =
     let long : length (c .before .args .slots) ≡ 8 = search needs in
-    c .none .ensures ∙ rw (closeAll-free (c .before .args .slots), long)
+    c .none .ensures ∙ sym (closeAll-free (c .before .args .slots) 8 long)
 
 pub close-all-spec : {M : Type 1} → statement M
 close-all-spec = tie.close (tie.spec none-requires returns)

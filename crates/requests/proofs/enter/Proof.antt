@@ -34,7 +34,7 @@ same-length c = search needs
 
 -- src/lib.rt:46:1
 returns : tie.Need-returns
-returns c = 
+returns c =
     let d = c .before .before .before .before .before .before .before .before .before .before .args .payload .now in
     let e = c .before .before .before .before .before .before .before .password-at .ensures ∙ take-all passwordSize d (omega (arith, c .before .before .before .before .before .before .before .before .before .before .pre .1)) in
     let x = rw e at (c .before .before .before .before .before .before .enter .ensures) in

@@ -50,7 +50,7 @@ slice-aggregate-reply-at c = search needs
 
 -- src/lib.rt:91:9
 reply-at-requires : tie.Need-reply-at-requires
-reply-at-requires c κs = 
+reply-at-requires c κs =
     let used = sym (known (c .before .before .before .before .before .before .before .before .before)) ∙ not-false _ (c .before .before .before .before .before .before .before .if1 .left) in
     let bytes = ap (λ (x : Informed). x .bytes) (c .before .before .before .before .before .before .before .before .before .information .ensures) ∙ informed-bytes _ _ (c .before .before .before .before .before .before .before .before .before .before .before .before .pre .0) used in
     let long = ap length bytes ∙ information-length _ _ (c .before .before .before .before .before .before .before .before .before .before .before .before .pre .0) (used-below _ _ used) in
@@ -66,7 +66,7 @@ same-length-2 c = search needs
 -- src/lib.rt:80:1
 returns-2 : tie.Need-returns-2
 unfolding getNode
-returns-2 c = 
+returns-2 c =
     let used = sym (known (c .before .before .before .before .before .before .before .before .before .before .before .before)) ∙ not-false _ (c .before .before .before .before .before .before .before .before .before .before .if1 .left) in
     let bytes = ap (λ (x : Informed). x .bytes) (c .before .before .before .before .before .before .before .before .before .before .before .before .information .ensures) ∙ informed-bytes _ _ (c .before .before .before .before .before .before .before .before .before .before .before .before .before .before .before .pre .0) used in
     rw used (record { hub = refl; replied = both-replied _ _ _ _ _ _ _ (c .before .before .before .before .before .before .before .before .confirm2 .ensures) (rw bytes at (c .before .before .reply-at .ensures)) })

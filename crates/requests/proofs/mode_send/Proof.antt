@@ -46,7 +46,7 @@ same-length c = search needs
 -- src/lib.rt:210:1
 returns : tie.Need-returns
 unfolding modeSend
-returns c = 
+returns c =
     let x = rw (c .before .before .before .before .before .before .before .before .before .before .request .ensures) at (c .before .before .before .before .before .before .before .before .before .mode-send .ensures) in
     record { hub = c .with-slots .ensures ∙ ap (λ (s : Sent). withSlots (c .before .before .before .before .before .before .before .before .before .before .before .before .before .before .before .args .hub) (s .slots)) x; replied = rw (ap (λ (s : Sent). s .status) x) at (c .before .before .before .reply .ensures) }
 

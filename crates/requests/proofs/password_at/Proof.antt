@@ -37,7 +37,7 @@ copy-requires c κs = search needs
 
 -- src/lib.rt:71:1
 returns : tie.Need-returns
-returns c = 
+returns c =
     let at = c .before .before .before .before .before .args .at in
     let e : at + passwordSize - at ≡ passwordSize = omega arith in
     let long : length (take passwordSize (drop at (c .before .before .before .before .before .args .payload .now))) ≡ passwordSize = simp (length-take, length-drop) (omega (arith, c .before .before .before .before .before .pre)) in

@@ -94,7 +94,7 @@ same-length-4 c = search needs
 -- src/lib.rt:85:1
 returns-3 : tie.Need-returns-3
 unfolding request
-returns-3 c = 
+returns-3 c =
     let k = getNode-kept (c .before .before .before .before .before .before .before .before .before .before .args .hub) (c .before .before .before .before .before .before .before .before .before .before .args .table .now) (getD (c .before .before .before .before .before .before .before .before .before .before .args .payload .now) 0 0) in
     rw (c .before .before .before .before .before .before .match .keys3) (record { hub = c .before .before .get-node .ensures .hub ∙ sym (k .0); table = sym (k .1); replied = c .before .before .get-node .ensures .replied })
 
@@ -183,7 +183,7 @@ same-length-17 c = search needs
 -- src/lib.rt:85:1
 returns-10 : tie.Need-returns-10
 unfolding request
-returns-10 c = 
+returns-10 c =
     let n = c .before .before .before .before .match .rest in
     rw (ne-eqb _ _ (n .0 .0 .0 .0 .0 .0 .0 .0 .1), ne-eqb _ _ (n .0 .0 .0 .0 .0 .0 .0 .1), ne-eqb _ _ (n .0 .0 .0 .0 .0 .0 .1), ne-eqb _ _ (n .0 .0 .0 .0 .0 .1), ne-eqb _ _ (n .0 .0 .0 .0 .1), ne-eqb _ _ (n .0 .0 .0 .1), ne-eqb _ _ (n .0 .0 .1), ne-eqb _ _ (n .0 .1), ne-eqb _ _ (n .1))
     (record { hub = refl; table = refl; replied = c .before .before .fail .ensures })

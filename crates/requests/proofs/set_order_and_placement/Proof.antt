@@ -42,7 +42,7 @@ same-length-2 c = search needs
 
 -- src/lib.rt:115:1
 returns : tie.Need-returns
-returns c = 
+returns c =
     let x = rw (rest (c .before .before .before .before .before .before .before .before .before .before .before .before .before .args .payload .now) 1) at (c .before .before .before .before .before .before .set-order-and-placement .ensures) in
     record { hub = refl; table = x .table; replied = rw (x .status) at (c .before .before .confirm .ensures) }
 

@@ -33,7 +33,7 @@ same-length-2 c = search needs
 
 -- src/lib.rt:95:1
 returns : tie.Need-returns
-returns c = 
+returns c =
     let x = c .before .before .before .before .before .before .set-variation .ensures in
     record { hub = refl; table = x .table; replied = rw (x .status) at (c .before .before .confirm .ensures) }
 

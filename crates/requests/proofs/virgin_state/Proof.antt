@@ -41,7 +41,7 @@ same-length-2 c = search needs
 -- src/lib.rt:199:1
 returns : tie.Need-returns
 unfolding virginState
-returns c = 
+returns c =
     record { hub = c .with-slots .ensures ∙ ap (withSlots (c .before .before .before .before .before .before .before .before .before .before .before .before .before .before .args .hub)) (c .before .close-all .ensures); table = c .before .before .before .before .before .before .before .before .before .before .empty .ensures; replied = c .before .before .before .before .before .reply .ensures }
 
 pub virgin-state-spec : {M : Type 1} → statement M

@@ -1,0 +1,50 @@
+use borrow.Author.Tests.{eq-eqb, ne-eqb}
+use mathlib.Core.Path.{_≡_, refl}
+use borrow.Author.Needs.{needs}
+use Rattle.hub.proofs.start.Statement.{statement}
+use Rattle.hub.proofs.start.Tie as tie
+use Rattle.hub.proofs.start.Reads as reads
+use Rattle.hub.proofs.start.Lts as lts
+use Rattle.hub.proofs.fresh.Reads as fresh-reads
+use Rattle.hub.proofs.password_of.Reads as password-of-reads
+use Rattle.nodes.proofs.empty.Reads as empty-reads
+
+-- src/lib.rt:104:9
+returns : tie.Need-returns
+returns c = simp (ne-eqb _ _ (c .if1 .taken))
+
+-- src/lib.rt:110:9
+returns-2 : tie.Need-returns-2
+returns-2 c = simp (eq-eqb _ _ (c .before .if1 .left), ne-eqb _ _ (c .if2 .taken))
+
+-- src/lib.rt:115:5
+empty-requires : tie.Need-empty-requires
+empty-requires c κs = search needs
+
+-- src/lib.rt:116:22
+password-of-requires : tie.Need-password-of-requires
+password-of-requires c κs = search needs
+
+-- src/lib.rt:116:9
+fresh-requires : tie.Need-fresh-requires
+fresh-requires c κs = search needs
+
+-- src/lib.rt:100:1
+same-length : tie.Need-same-length
+same-length c = search needs
+
+-- src/lib.rt:100:1
+returns-3 : tie.Need-returns-3
+returns-3 c = simp (eq-eqb _ _ (c .before .before .before .before .before .before .before .if1 .left), eq-eqb _ _ (c .before .before .before .before .before .before .if2 .left), c .before .before .before .before .empty .ensures, c .fresh .ensures, c .before .password-of .ensures)
+
+pub start-spec : {M : Type 1} → statement M
+start-spec =
+    tie.close
+    (tie.spec
+    returns
+    returns-2
+    empty-requires
+    password-of-requires
+    fresh-requires
+    same-length
+    returns-3)

@@ -1,0 +1,66 @@
+-- What the hub's calls answer, by document 01's numbers.
+use Prim.Native.Nat.{ℕ}
+use mathlib.Core.List.{List}
+use mathlib.Core.Option.{Option, none, some}
+use Rattle.line.specs.declared.Reading.{Reading}
+use Rattle.frame.specs.Answers as outcome
+use Rattle.feeds.specs.System as feeds
+use Rattle.feeds.specs.Service.{Got}
+use Rattle.rules.specs.declared.Hub.{Hub}
+use Rattle.rules.specs.Hub as rules
+use Rattle.rules.specs.Promises.{ClosedLine, FinishedSession}
+use Rattle.hub.specs.declared.Refusal.{Refusal}
+use Rattle.hub.specs.declared.Refusal.the-variants as cause
+use Rattle.hub.specs.declared.CallAnswer.{CallAnswer}
+use Rattle.hub.specs.declared.CallAnswer.the-variants as call
+use Rattle.hub.specs.declared.FinishAnswer.{FinishAnswer}
+use Rattle.hub.specs.declared.FinishAnswer.the-variants as finish
+use Rattle.hub.specs.declared.FeedAnswer.{FeedAnswer}
+use Rattle.hub.specs.declared.FeedAnswer.the-variants as feed
+use Rattle.hub.specs.declared.Started.{Started}
+use Rattle.hub.specs.declared.Closed.{Closed}
+use Rattle.hub.specs.declared.Finished.{Finished}
+use Rattle.hub.specs.declared.Fed.{Fed}
+
+-- the number of each refusal
+abbrev pub number : Refusal → ℕ
+number cause.WrongTable = rules.wrongTable
+number cause.WrongLine = rules.wrongLine
+number cause.ShortRoom = rules.shortRoom
+number cause.WrongNode = rules.wrongNode
+number cause.NodeInUse = rules.nodeInUse
+number cause.NotOpen = rules.notOpen
+number cause.WrongPassword = rules.wrongPassword
+
+abbrev pub refusalOf : CallAnswer → Option ℕ
+refusalOf call.Done = none
+refusalOf (call.Refused r) = some (number r)
+
+-- what each call comes to, with the memory that it was lent
+abbrev pub startedOf : Started → List ℕ → rules.Started
+startedOf r t = record { refusal = refusalOf (r .answer); hub = r .hub; table = t }
+
+abbrev pub enrolledOf : CallAnswer → List ℕ → rules.Enrolled
+enrolledOf r t = record { refusal = refusalOf r; table = t }
+
+abbrev pub closedOf : Closed → ClosedLine
+closedOf r = record { refusal = refusalOf (r .answer); hub = r .hub; reading = r .reading }
+
+abbrev pub finishOf : FinishAnswer → rules.Finish
+finishOf (finish.Finished line len) = rules.finishedOn line len
+finishOf (finish.Refused r) = rules.refusedFinish (number r)
+
+abbrev pub finishedOf : Finished → List ℕ → FinishedSession
+finishedOf r room = record { answer = finishOf (r .answer); hub = r .hub; room = room }
+
+-- a frame's data stand in the record's bytes
+abbrev pub answerOf : FeedAnswer → List ℕ → feeds.Answer
+answerOf (feed.Told used o len) bytes = feeds.told used (outcome.told o bytes) len
+answerOf (feed.Refused r) bytes = feeds.refused (number r)
+
+abbrev pub fedOf : Fed → List ℕ → List ℕ → Got rules.hub
+fedOf r t room = record { hub = r .hub; table = t; reading = r .reading; answer = answerOf (r .answer) (r .reading .bytes); room = room }
+
+-- `refused`: hub and record as they were lent
+abbrev pub refusedFeed : Hub → Reading → Refusal → Fed
+refusedFeed h r why = record { answer = feed.Refused why; hub = h; reading = r }
