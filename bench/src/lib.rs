@@ -1,16 +1,26 @@
-//! The bench: a second reader of captures, written from the paper alone.
+//! The bench: a second reader of captures and a second hub, written from the
+//! papers alone.
 //!
-//! It makes seeded captures, compares a listing program with the second
-//! reader byte for byte, and measures it against a plain reader.
+//! It makes seeded captures and scripts, compares a listing program and a
+//! replay program with its own byte for byte, and measures them.
 
 pub mod arguments;
+pub mod difference;
+pub mod directory;
 pub mod generate;
+pub mod hub;
 pub mod input;
+pub mod mix;
 pub mod outcome;
 pub mod paper;
 pub mod plain;
 pub mod random;
+pub mod reach;
+pub mod replay;
+pub mod scripts;
 pub mod sender;
 pub mod stand;
 pub mod tally;
+pub mod tour;
 pub mod watch;
+pub mod workers;

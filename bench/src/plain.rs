@@ -11,14 +11,15 @@ use crate::outcome::{Outcome, Refusal, END, ESC, ESC_END, ESC_ESC, FRAME_LEAST, 
 const BUFFER: usize = 64 * 1024;
 
 /// What the next byte means.
-#[derive(Clone, Copy)]
-enum Mode {
+#[derive(Clone, Copy, Debug, PartialEq, Eq)]
+pub enum Mode {
     Taking,
     Escaped,
     Skipping(Refusal),
 }
 
 /// The reading state of one line.
+#[derive(Clone)]
 pub struct Reader {
     held: [u8; PACKET_MOST],
     count: usize,
@@ -33,12 +34,44 @@ impl Default for Reader {
 
 impl Reader {
     /// A reader between packets.
-    pub fn new() -> Self {
+    pub const fn new() -> Self {
         Reader {
             held: [0; PACKET_MOST],
             count: 0,
             mode: Mode::Taking,
         }
+    }
+
+    pub fn mode(&self) -> Mode {
+        self.mode
+    }
+
+    /// The decoded bytes of the open piece. A settled piece holds none.
+    pub fn held(&self) -> &[u8] {
+        match self.mode {
+            Mode::Skipping(_) => &[],
+            Mode::Taking | Mode::Escaped => &self.held[..self.count],
+        }
+    }
+
+    pub fn is_between_packets(&self) -> bool {
+        self.mode == Mode::Taking && self.count == 0
+    }
+
+    /// Takes bytes up to the first outcome, and tells how many were used.
+    pub fn read(&mut self, bytes: &[u8]) -> (usize, Option<Outcome>) {
+        for (place, &byte) in bytes.iter().enumerate() {
+            if let Some(outcome) = self.push(byte) {
+                return (place + 1, Some(outcome));
+            }
+        }
+        (bytes.len(), None)
+    }
+
+    /// The data of the frame that was the last outcome, so many bytes. They
+    /// stay until the next byte is taken.
+    pub fn data(&self, count: usize) -> &[u8] {
+        &self.held[4..4 + count]
     }
 
     /// Takes one wire byte. An END that closes a piece gives its outcome.

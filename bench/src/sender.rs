@@ -44,6 +44,14 @@ pub fn escape(bytes: &[u8]) -> Vec<u8> {
     body
 }
 
+/// The wire form of a frame, with both ENDs.
+pub fn wire(command: u16, data: &[u8]) -> Vec<u8> {
+    let mut wire = vec![END];
+    wire.extend(escape(&frame(command, data)));
+    wire.push(END);
+    wire
+}
+
 /// Sends bodies one after the other, with an END before and after each.
 pub fn join(bodies: &[Vec<u8>], ends: Ends, random: &mut Random) -> Vec<u8> {
     let mut wire = vec![END];

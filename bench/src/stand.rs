@@ -53,8 +53,8 @@ impl Stand {
         })
     }
 
-    /// Runs the program on a capture.
-    pub fn run(&mut self, capture: &[u8], feed: Feed) -> io::Result<Answer> {
+    /// Runs the program on a capture, and reads no more than so many bytes.
+    pub fn run(&mut self, capture: &[u8], feed: Feed, most: usize) -> io::Result<Answer> {
         let input = match feed {
             Feed::File => self.filled(capture)?,
             Feed::Parts => Stdio::piped(),
@@ -69,7 +69,7 @@ impl Stand {
             if let Some(pipe) = pipe {
                 scope.spawn(move || send_in_parts(pipe, process, capture));
             }
-            answer(child, output_most(capture))
+            answer(child, most as u64)
         })
     }
 
@@ -77,12 +77,6 @@ impl Stand {
         self.input.fill(capture)?;
         self.input.from_start()
     }
-}
-
-/// More bytes than a right listing has. An outcome takes at least two wire
-/// bytes, and a frame at least six.
-fn output_most(capture: &[u8]) -> u64 {
-    10 * capture.len() as u64 + 100
 }
 
 /// Reads what the program writes. A program that does not end is ended.

@@ -5,18 +5,17 @@ use std::env;
 use std::error::Error;
 use std::io;
 use std::path::Path;
-use std::process::{ExitCode, ExitStatus};
-use std::sync::atomic::{AtomicUsize, Ordering};
-use std::thread;
+use std::process::ExitCode;
 
 use bench::arguments::{self, Arguments};
+use bench::difference::{self, Fault};
 use bench::generate::{Kind, Name};
 use bench::paper;
-use bench::stand::{Answer, Feed, Stand};
+use bench::stand::{Feed, Stand};
 use bench::tally::Tally;
+use bench::workers::{self, WORKERS};
 
 const USAGE: &str = "usage: compare PROGRAM [[large] KIND INDEX] [--captures N] [--seed S]";
-const WORKERS: usize = 2;
 /// Captures that are compared unless another number is asked for.
 const CAPTURES: u64 = 20_000;
 /// The fewest drawn captures of a kind.
@@ -35,15 +34,6 @@ struct Difference {
     name: Name,
     capture: Vec<u8>,
     fault: Fault,
-}
-
-enum Fault {
-    /// Its output is not the listing.
-    Output(Vec<u8>),
-    /// Its output is the listing, but it did not end well.
-    End(ExitStatus),
-    /// It could not be run to its end.
-    Run(io::Error),
 }
 
 /// What was reached, and the first difference with its place in the order.
@@ -131,48 +121,20 @@ fn feed(name: Name) -> Feed {
     }
 }
 
-/// Lets the workers take the captures in order. All stop at a difference.
+/// Lets the workers take the captures in order.
 fn compare(program: &Path, seed: u64, names: &[Name]) -> io::Result<Found> {
-    let next = &AtomicUsize::new(0);
-    let found: Vec<io::Result<Found>> = thread::scope(|scope| {
-        let workers: Vec<_> = (0..WORKERS)
-            .map(|worker| {
-                let stand = Stand::new(program, &worker.to_string());
-                scope.spawn(move || Ok(work(stand?, seed, names, next)))
-            })
-            .collect();
-        workers
-            .into_iter()
-            .map(|worker| worker.join().expect("a worker does not panic"))
-            .collect()
+    let mut states = Vec::new();
+    for worker in 0..WORKERS {
+        let stand = Stand::new(program, &worker.to_string())?;
+        states.push((stand, Tally::default()));
+    }
+    let (states, difference) = workers::take(names.len(), states, |(stand, tally), number| {
+        run(stand, names[number], seed, tally)
     });
-    together(found)
-}
-
-fn work(mut stand: Stand, seed: u64, names: &[Name], next: &AtomicUsize) -> Found {
     let mut tally = Tally::default();
-    let mut difference = None;
-    while difference.is_none() {
-        let number = next.fetch_add(1, Ordering::Relaxed);
-        let Some(&name) = names.get(number) else {
-            break;
-        };
-        difference = run(&mut stand, name, seed, &mut tally).map(|found| (number, found));
+    for (_, more) in &states {
+        tally.add(more);
     }
-    next.store(names.len(), Ordering::Relaxed);
-    Found { tally, difference }
-}
-
-/// Adds the tallies and keeps the difference that comes first.
-fn together(found: Vec<io::Result<Found>>) -> io::Result<Found> {
-    let mut tally = Tally::default();
-    let mut differences = Vec::new();
-    for found in found {
-        let found = found?;
-        tally.add(&found.tally);
-        differences.extend(found.difference);
-    }
-    let difference = differences.into_iter().min_by_key(|(number, _)| *number);
     Ok(Found { tally, difference })
 }
 
@@ -180,8 +142,13 @@ fn together(found: Vec<io::Result<Found>>) -> io::Result<Found> {
 fn run(stand: &mut Stand, name: Name, seed: u64, tally: &mut Tally) -> Option<Difference> {
     let capture = name.capture(seed);
     let listing = paper::read(&capture);
-    let answer = stand.run(&capture, feed(name));
-    if let Some(fault) = fault(&paper::render(&listing), answer) {
+    let expected = paper::render(&listing);
+    let answer = stand.run(
+        &capture,
+        feed(name),
+        difference::enough(expected.as_bytes()),
+    );
+    if let Some(fault) = difference::fault(expected.as_bytes(), answer) {
         return Some(Difference {
             name,
             capture,
@@ -190,15 +157,6 @@ fn run(stand: &mut Stand, name: Name, seed: u64, tally: &mut Tally) -> Option<Di
     }
     tally.count(name.kind, capture.len(), &listing);
     None
-}
-
-fn fault(expected: &str, answer: io::Result<Answer>) -> Option<Fault> {
-    match answer {
-        Err(error) => Some(Fault::Run(error)),
-        Ok(answer) if answer.text != expected.as_bytes() => Some(Fault::Output(answer.text)),
-        Ok(answer) if !answer.status.success() => Some(Fault::End(answer.status)),
-        Ok(_) => None,
-    }
 }
 
 fn show(difference: &Difference, program: &str, seed: u64) {
@@ -230,18 +188,7 @@ fn show(difference: &Difference, program: &str, seed: u64) {
 /// Shows the first line that differs and the wire bytes that it tells of.
 fn show_output(capture: &[u8], text: &[u8]) {
     let expected = paper::render(&paper::read(capture));
-    let mut wanted = expected.as_bytes().split_inclusive(|&byte| byte == b'\n');
-    let mut got = text.split_inclusive(|&byte| byte == b'\n');
-    let mut line = 0;
-    let (wanted, got) = loop {
-        match (wanted.next(), got.next()) {
-            (wanted, got) if wanted != got => break (wanted, got),
-            _ => line += 1,
-        }
-    };
-    println!("  line {}", line + 1);
-    println!("  expected  {}", quoted(wanted));
-    println!("  got       {}", quoted(got));
+    let line = difference::show_line(expected.as_bytes(), text);
     match paper::closed_pieces(capture).get(line) {
         Some(piece) => show_piece(capture, piece.start, piece.end),
         None => show_piece(capture, paper::open_start(capture), capture.len()),
@@ -256,13 +203,6 @@ fn show_piece(capture: &[u8], start: usize, end: usize) {
     println!("  before    {}", hex(&capture[from..start]));
     println!("  piece     {}", hex(&capture[start..end]));
     println!("  behind    {}", hex(&capture[end..to]));
-}
-
-fn quoted(line: Option<&[u8]>) -> String {
-    match line {
-        Some(line) => format!("{:?}", String::from_utf8_lossy(line)),
-        None => "nothing more".to_string(),
-    }
 }
 
 /// The bytes in hexadecimal. The middle of long ones is left out.

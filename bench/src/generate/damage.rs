@@ -40,7 +40,7 @@ fn bodies() -> Vec<Vec<u8>> {
 }
 
 /// The places of a body that can be damaged so.
-fn places(damage: Damage, body: &[u8]) -> usize {
+pub fn places(damage: Damage, body: &[u8]) -> usize {
     match damage {
         Damage::Inserted => body.len() + 1,
         Damage::Replaced | Damage::Lost => body.len(),
@@ -107,7 +107,8 @@ fn values(body: &[u8]) -> Vec<u8> {
     }
 }
 
-fn damaged(damage: Damage, body: &[u8], place: usize, value: u8) -> Vec<u8> {
+/// A body damaged at one place.
+pub fn damaged(damage: Damage, body: &[u8], place: usize, value: u8) -> Vec<u8> {
     let mut body = body.to_vec();
     match damage {
         Damage::Replaced => body[place] = value,
@@ -134,7 +135,7 @@ fn drawn(damage: Damage, random: &mut Random) -> Vec<Vec<u8>> {
 }
 
 /// A byte that is neither END nor the old one.
-fn other_value(old: Option<u8>, random: &mut Random) -> u8 {
+pub fn other_value(old: Option<u8>, random: &mut Random) -> u8 {
     loop {
         let special = random.pick(&[ESC, ESC_END, ESC_ESC]);
         let any = random.byte();

@@ -1,0 +1,140 @@
+//! The hub as the paper states it: its state, the host calls, and feed.
+//!
+//! It is the other side of the comparison, so it is written to be believed.
+//! Lent lengths and numbers may be anything.
+
+pub mod commands;
+pub mod nodes;
+pub mod refusals;
+mod serve;
+pub mod sessions;
+
+use crate::outcome::Outcome;
+use crate::plain::Reader;
+use crate::sender;
+use commands::SESSION_FINISHED;
+use refusals::{CallRefusal, Refusals};
+use sessions::Sessions;
+
+pub const LINES: usize = 4;
+pub const PASSWORD: usize = 32;
+/// The least room that a call is lent for its reply.
+pub const ROOM_LEAST: usize = 512;
+
+#[derive(Clone, Debug, PartialEq, Eq)]
+pub struct Hub {
+    pub password: [u8; PASSWORD],
+    pub logins: [bool; LINES],
+    pub sessions: Sessions,
+}
+
+/// What feed tells.
+pub struct Fed {
+    pub used: usize,
+    pub outcome: Option<Outcome>,
+    /// The length of the reply.
+    pub reply: usize,
+    /// What the hub did, in words that a tally counts.
+    pub remarks: Vec<&'static str>,
+}
+
+/// What finish tells.
+pub struct Finished {
+    pub line: u8,
+    pub reply: usize,
+}
+
+impl Default for Hub {
+    fn default() -> Self {
+        Self::new()
+    }
+}
+
+impl Hub {
+    /// The hub before any start.
+    pub fn new() -> Self {
+        Hub {
+            password: [0; PASSWORD],
+            logins: [false; LINES],
+            sessions: Sessions::default(),
+        }
+    }
+
+    pub fn start(&mut self, password: &[u8], table: &mut [u8]) -> Result<(), Refusals> {
+        Refusals::none_of(&[
+            (CallRefusal::Table, table.len() != nodes::TABLE),
+            (CallRefusal::Password, password.len() != PASSWORD),
+        ])?;
+        *self = Hub::new();
+        self.password.copy_from_slice(password);
+        table.fill(0);
+        Ok(())
+    }
+
+    pub fn enrol(&self, node: u8, kind: u16, table: &mut [u8]) -> Result<(), Refusals> {
+        Refusals::none_of(&[
+            (CallRefusal::Table, table.len() != nodes::TABLE),
+            (CallRefusal::Node, usize::from(node) >= nodes::NODES),
+            (CallRefusal::InUse, nodes::in_use(table, node)),
+        ])?;
+        nodes::enrol(table, node, kind);
+        Ok(())
+    }
+
+    /// The record is that of the line. A line above 3 is lent any.
+    pub fn close(&mut self, line: u8, record: &mut Reader) -> Result<(), Refusals> {
+        Refusals::none_of(&[(CallRefusal::Line, usize::from(line) >= LINES)])?;
+        self.logins[usize::from(line)] = false;
+        self.sessions.close_if(|session| session.line == line);
+        *record = Reader::new();
+        Ok(())
+    }
+
+    pub fn finish(&mut self, session: u16, room: &mut [u8]) -> Result<Finished, Refusals> {
+        let slot = self.sessions.slot_of(session);
+        Refusals::none_of(&[
+            (CallRefusal::Room, room.len() < ROOM_LEAST),
+            (CallRefusal::NotOpen, slot.is_none()),
+        ])?;
+        let line = slot.map_or(0, |slot| self.sessions.close(slot));
+        let reply = sender::wire(SESSION_FINISHED, &session.to_be_bytes());
+        room[..reply.len()].copy_from_slice(&reply);
+        Ok(Finished {
+            line,
+            reply: reply.len(),
+        })
+    }
+
+    /// Reads up to the first outcome and serves it.
+    pub fn feed(
+        &mut self,
+        line: u8,
+        bytes: &[u8],
+        table: &mut [u8],
+        record: &mut Reader,
+        room: &mut [u8],
+    ) -> Result<Fed, Refusals> {
+        Refusals::none_of(&[
+            (CallRefusal::Table, table.len() != nodes::TABLE),
+            (CallRefusal::Line, usize::from(line) >= LINES),
+            (CallRefusal::Room, room.len() < ROOM_LEAST),
+        ])?;
+        let (used, outcome) = record.read(bytes);
+        let mut fed = Fed {
+            used,
+            outcome,
+            reply: 0,
+            remarks: Vec::new(),
+        };
+        if let Some(outcome) = outcome {
+            let served = self.serve(table, line, outcome, record);
+            room[..served.reply.len()].copy_from_slice(&served.reply);
+            fed.reply = served.reply.len();
+            fed.remarks = served.remarks;
+        }
+        Ok(fed)
+    }
+}
+
+#[cfg(test)]
+mod tests;

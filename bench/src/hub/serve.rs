@@ -1,0 +1,332 @@
+//! What the hub does with an outcome: error replies and the nine requests.
+
+use super::commands::*;
+use super::nodes::{self, KIND, NAME, NODES, ORDER, PLACEMENT, VARIATION};
+use super::sessions::Session;
+use super::{Hub, PASSWORD};
+use crate::directory;
+use crate::outcome::Outcome;
+use crate::plain::Reader;
+use crate::sender;
+
+/// The data bytes of a notice of a node.
+const NODE_NOTICE_DATA: usize = 124;
+
+/// Error bytes.
+const NOT_ACCEPTED: u8 = 1;
+const FRAME_STRUCTURE: u8 = 2;
+const NOT_LOGGED_IN: u8 = 12;
+
+/// Statuses of the node commands.
+const OK: u8 = 0;
+const REJECTED: u8 = 1;
+const INVALID_NODE: u8 = 2;
+
+const VARIATION_MOST: u8 = 4;
+
+/// The reply on the wire, and what was done.
+pub struct Served {
+    pub reply: Vec<u8>,
+    pub remarks: Vec<&'static str>,
+}
+
+impl Served {
+    fn new(command: u16, data: &[u8], remark: &'static str) -> Self {
+        Served {
+            reply: sender::wire(command, data),
+            remarks: vec![remark],
+        }
+    }
+
+    fn error(byte: u8, remark: &'static str) -> Self {
+        Served::new(ERROR, &[byte], remark)
+    }
+
+    fn confirm(request: u16, data: &[u8], remark: &'static str) -> Self {
+        Served::new(request + 1, data, remark)
+    }
+}
+
+impl Hub {
+    /// Judges an outcome in the paper's order. The data of a frame is still
+    /// in the record.
+    pub(super) fn serve(
+        &mut self,
+        table: &mut [u8],
+        line: u8,
+        outcome: Outcome,
+        record: &Reader,
+    ) -> Served {
+        let Outcome::Frame { command, data } = outcome else {
+            return Served::error(FRAME_STRUCTURE, "error 2: packet refused");
+        };
+        let Some(entry) = directory::find(command) else {
+            return Served::error(NOT_ACCEPTED, "error 1: command unknown");
+        };
+        if !entry.allows(data) {
+            return Served::error(FRAME_STRUCTURE, "error 2: data length");
+        }
+        if !self.logins[usize::from(line)] && command != PASSWORD_ENTER {
+            return Served::error(NOT_LOGGED_IN, "error 12: not logged in");
+        }
+        let data = record.data(data);
+        match command {
+            PASSWORD_ENTER => self.enter(line, data),
+            PASSWORD_CHANGE => self.change(data),
+            GET_NODE => get(table, data[0]),
+            SET_VARIATION => set_variation(table, data[0], data[1]),
+            SET_NAME => set_name(table, data[0], &data[1..]),
+            SET_ORDER => set_order(table, data[0], &data[1..]),
+            REMOVE_NODES => self.remove(table, data),
+            VIRGIN_STATE => self.virgin(table),
+            MODE_SEND => self.mode_send(table, line, data),
+            _ => Served::error(NOT_ACCEPTED, "error 1: not served"),
+        }
+    }
+
+    fn enter(&mut self, line: u8, data: &[u8]) -> Served {
+        let login = &mut self.logins[usize::from(line)];
+        if data == self.password {
+            *login = true;
+            Served::confirm(PASSWORD_ENTER, &[OK], "enter 0")
+        } else if *login {
+            Served::confirm(PASSWORD_ENTER, &[REJECTED], "enter 1: stays logged in")
+        } else {
+            Served::confirm(PASSWORD_ENTER, &[REJECTED], "enter 1: not logged in")
+        }
+    }
+
+    fn change(&mut self, data: &[u8]) -> Served {
+        let (old, new) = data.split_at(PASSWORD);
+        if old != self.password {
+            return Served::confirm(PASSWORD_CHANGE, &[REJECTED], "change 1");
+        }
+        self.password.copy_from_slice(new);
+        let remark = if old == new {
+            "change 0: to the same"
+        } else {
+            "change 0: to another"
+        };
+        Served::confirm(PASSWORD_CHANGE, &[OK], remark)
+    }
+
+    fn remove(&mut self, table: &mut [u8], bits: &[u8]) -> Served {
+        let named = |node: u8| bits[usize::from(node / 8)] >> (node % 8) & 1 == 1;
+        let before = nodes::all_in_use(table);
+        let removed: Vec<u8> = before.iter().copied().filter(|&node| named(node)).collect();
+        for &node in &removed {
+            nodes::record_mut(table, node).fill(0);
+        }
+        let loses = |session: &Session| session.nodes.iter().any(|node| removed.contains(node));
+        let closed = self.sessions.close_if(loses);
+        let remark = match removed.len() {
+            0 => "remove: no node",
+            count if count < before.len() => "remove: some nodes",
+            _ => "remove: all nodes",
+        };
+        let mut served = Served::confirm(REMOVE_NODES, &[0], remark);
+        if closed > 0 {
+            served.remarks.push("remove: a session closes");
+        }
+        if self.sessions.open().next().is_some() {
+            served.remarks.push("remove: a session stays open");
+        }
+        if bits[NODES / 8] != 0 {
+            served.remarks.push("remove: bits 200 to 207 named");
+        }
+        if (0..NODES as u8).any(|node| named(node) && !before.contains(&node)) {
+            served.remarks.push("remove: a node not in use named");
+        }
+        served
+    }
+
+    fn virgin(&mut self, table: &mut [u8]) -> Served {
+        table.fill(0);
+        let remark = match self.sessions.close_if(|_| true) {
+            0 => "virgin: no session",
+            _ => "virgin: a session closes",
+        };
+        Served::confirm(VIRGIN_STATE, &[], remark)
+    }
+
+    fn mode_send(&mut self, table: &[u8], line: u8, data: &[u8]) -> Served {
+        let request = ModeSend::new(data);
+        let (status, remark) = self.mode_status(table, line, &request);
+        if let (OK, Some(slot)) = (status, self.sessions.lowest_free()) {
+            let mut nodes = request.nodes.to_vec();
+            nodes.sort();
+            self.sessions.slots[slot] = Some(Session {
+                number: request.session,
+                line,
+                nodes,
+            });
+        }
+        Served::confirm(MODE_SEND, &[data[0], data[1], status], remark)
+    }
+
+    /// The first status that applies.
+    fn mode_status(&self, table: &[u8], line: u8, request: &ModeSend) -> (u8, &'static str) {
+        let illegal = request.illegal(table);
+        if illegal.len() > 1 {
+            return (5, "mode send 5: several causes");
+        }
+        if let Some(cause) = illegal.first() {
+            return (5, cause);
+        }
+        if let Some(slot) = self.sessions.slot_of(request.session) {
+            let other = self.sessions.slots[slot].as_ref().map(|open| open.line) != Some(line);
+            let remarks = ["mode send 3: own session", "mode send 3: other line's"];
+            return (3, remarks[usize::from(other)]);
+        }
+        if self.sessions.lowest_free().is_none() {
+            return (4, "mode send 4");
+        }
+        let mut holders = request
+            .nodes
+            .iter()
+            .filter_map(|&node| self.sessions.holder(node));
+        match holders.next() {
+            Some(holder) if holder.line == line => (1, "mode send 1: own session"),
+            Some(_) => (1, "mode send 1: other line's"),
+            None if request.count == 1 => (0, "mode send 0: 1 node"),
+            None if request.count == INDICES => (0, "mode send 0: 20 nodes"),
+            None => (0, "mode send 0: some nodes"),
+        }
+    }
+}
+
+/// What mode send asks for. Mode, parameter, levels and lock time are free.
+struct ModeSend<'a> {
+    session: u16,
+    originator: u8,
+    priority: u8,
+    count: u8,
+    /// The first indices, as many as the count says if it is right.
+    nodes: &'a [u8],
+    lock: u8,
+}
+
+impl<'a> ModeSend<'a> {
+    const PRIORITY_MOST: u8 = 7;
+    const LOCK_MOST: u8 = 1;
+
+    fn new(data: &'a [u8]) -> Self {
+        let count = data[6];
+        let taken = if count <= INDICES { count } else { 0 };
+        ModeSend {
+            session: u16::from_be_bytes([data[0], data[1]]),
+            originator: data[2],
+            priority: data[3],
+            count,
+            nodes: &data[7..7 + usize::from(taken)],
+            lock: data[27],
+        }
+    }
+
+    /// All causes of status 5.
+    fn illegal(&self, table: &[u8]) -> Vec<&'static str> {
+        let above = |&node: &u8| usize::from(node) >= NODES;
+        let unused = |node: &u8| !above(node) && !nodes::in_use(table, *node);
+        let nodes = self.nodes;
+        let twice = (1..nodes.len()).any(|place| nodes[..place].contains(&nodes[place]));
+        let causes = [
+            (self.count == 0, "mode send 5: count 0"),
+            (self.count == 21, "mode send 5: count 21"),
+            (self.count > 21, "mode send 5: count above 21"),
+            (nodes.iter().any(above), "mode send 5: node above 199"),
+            (nodes.iter().any(unused), "mode send 5: node not in use"),
+            (twice, "mode send 5: node named twice"),
+            (self.priority > Self::PRIORITY_MOST, "mode send 5: priority"),
+            (self.lock > Self::LOCK_MOST, "mode send 5: lock"),
+            (
+                !ORIGINATORS.contains(&self.originator),
+                "mode send 5: originator",
+            ),
+        ];
+        let applies = causes.into_iter().filter(|(applies, _)| *applies);
+        applies.map(|(_, cause)| cause).collect()
+    }
+}
+
+/// What is wrong with a node, if anything.
+#[derive(Clone, Copy)]
+enum Invalid {
+    Above,
+    NotInUse,
+}
+
+fn invalid(table: &[u8], node: u8) -> Option<Invalid> {
+    if usize::from(node) >= NODES {
+        Some(Invalid::Above)
+    } else if !nodes::in_use(table, node) {
+        Some(Invalid::NotInUse)
+    } else {
+        None
+    }
+}
+
+fn get(table: &[u8], node: u8) -> Served {
+    let (status, remark) = match invalid(table, node) {
+        Some(Invalid::Above) => (INVALID_NODE, "get 2: above 199"),
+        Some(Invalid::NotInUse) => (INVALID_NODE, "get 2: not in use"),
+        None => (OK, "get 0"),
+    };
+    let mut served = Served::confirm(GET_NODE, &[status, node], remark);
+    if status == OK {
+        let notice = notice(node, nodes::record(table, node));
+        served.reply.extend(sender::wire(NODE_NOTICE, &notice));
+    }
+    served
+}
+
+/// The data of frame 0210. Fields that the hub does not keep are zero.
+fn notice(node: u8, record: &[u8]) -> [u8; NODE_NOTICE_DATA] {
+    let mut data = [0; NODE_NOTICE_DATA];
+    data[0] = node;
+    data[1..3].copy_from_slice(&record[ORDER]);
+    data[3] = record[PLACEMENT];
+    data[4..68].copy_from_slice(&record[NAME]);
+    data[69..71].copy_from_slice(&record[KIND]);
+    data[73] = record[VARIATION];
+    data
+}
+
+fn set_variation(table: &mut [u8], node: u8, variation: u8) -> Served {
+    let (status, remark) = match invalid(table, node) {
+        Some(Invalid::Above) => (INVALID_NODE, "variation 2: above 199"),
+        Some(Invalid::NotInUse) => (INVALID_NODE, "variation 2: not in use"),
+        None if variation > VARIATION_MOST => (REJECTED, "variation 1"),
+        None => {
+            nodes::record_mut(table, node)[VARIATION] = variation;
+            (OK, "variation 0")
+        }
+    };
+    Served::confirm(SET_VARIATION, &[status, node], remark)
+}
+
+fn set_name(table: &mut [u8], node: u8, name: &[u8]) -> Served {
+    let (status, remark) = match invalid(table, node) {
+        Some(Invalid::Above) => (INVALID_NODE, "name 2: above 199"),
+        Some(Invalid::NotInUse) => (INVALID_NODE, "name 2: not in use"),
+        None => {
+            nodes::record_mut(table, node)[NAME].copy_from_slice(name);
+            (OK, "name 0")
+        }
+    };
+    Served::confirm(SET_NAME, &[status, node], remark)
+}
+
+/// Order has two bytes, placement one.
+fn set_order(table: &mut [u8], node: u8, fields: &[u8]) -> Served {
+    let (status, remark) = match invalid(table, node) {
+        Some(Invalid::Above) => (INVALID_NODE, "order 2: above 199"),
+        Some(Invalid::NotInUse) => (INVALID_NODE, "order 2: not in use"),
+        None => {
+            let record = nodes::record_mut(table, node);
+            record[ORDER].copy_from_slice(&fields[..2]);
+            record[PLACEMENT] = fields[2];
+            (OK, "order 0")
+        }
+    };
+    Served::confirm(SET_ORDER, &[status, node], remark)
+}

@@ -1,0 +1,438 @@
+//! What scripts reach: calls, refusals, statuses and bad lines, counted by
+//! the model while it answers.
+
+use std::collections::{BTreeSet, HashMap};
+use std::fmt;
+
+use crate::directory::{self, Entry, ENTRIES};
+use crate::hub::nodes::TABLE;
+use crate::hub::sessions::SLOTS;
+use crate::hub::LINES;
+use crate::outcome::{Outcome, DATA_MOST};
+use crate::replay::call::{Bad, Call};
+use crate::replay::lines::Lines;
+use crate::replay::{mode_name, Replay, Told};
+
+/// Unknown numbers that must be sent in all.
+pub const UNKNOWN_LEAST: usize = 1000;
+
+/// Everything that is counted, bad lines apart.
+const ROWS: [&str; 105] = [
+    "start done",
+    "start refused 7",
+    "start refused 14",
+    "start refused 7 before 14",
+    "enrol done",
+    "enrol refused 7",
+    "enrol refused 11",
+    "enrol refused 12",
+    "enrol refused 7 before 11",
+    "enrol refused 7 before 12",
+    "close done",
+    "close refused 8",
+    "finish done",
+    "finish refused 9",
+    "finish refused 13",
+    "finish refused 9 before 13",
+    "feed refused 7",
+    "feed refused 8",
+    "feed refused 9",
+    "feed refused 7 before 8",
+    "feed refused 7 before 9",
+    "feed refused 8 before 9",
+    "feed refused 7 before 8 before 9",
+    "table 0",
+    "table one byte short",
+    "table one byte long",
+    "table shorter",
+    "table longer",
+    "room 0",
+    "room 511",
+    "room 512",
+    "room 1024",
+    "node 199 enrolled",
+    "node 200 refused",
+    "feed: no bytes",
+    "feed: no outcome",
+    "feed: bytes not used",
+    "feed: ends what others began",
+    "feed: 250 data bytes",
+    "packet 1",
+    "packet 2",
+    "packet 3",
+    "packet 4",
+    "packet 5",
+    "packet 6",
+    "error 2: packet refused",
+    "error 1: command unknown",
+    "error 2: data length",
+    "error 12: not logged in",
+    "error 1: not served",
+    "enter 0",
+    "enter 1: not logged in",
+    "enter 1: stays logged in",
+    "change 0: to another",
+    "change 0: to the same",
+    "change 1",
+    "get 0",
+    "get 2: above 199",
+    "get 2: not in use",
+    "variation 0",
+    "variation 1",
+    "variation 2: above 199",
+    "variation 2: not in use",
+    "name 0",
+    "name 2: above 199",
+    "name 2: not in use",
+    "order 0",
+    "order 2: above 199",
+    "order 2: not in use",
+    "remove: no node",
+    "remove: some nodes",
+    "remove: all nodes",
+    "remove: a session closes",
+    "remove: a session stays open",
+    "remove: bits 200 to 207 named",
+    "remove: a node not in use named",
+    "virgin: no session",
+    "virgin: a session closes",
+    "mode send 0: 1 node",
+    "mode send 0: some nodes",
+    "mode send 0: 20 nodes",
+    "mode send 1: own session",
+    "mode send 1: other line's",
+    "mode send 3: own session",
+    "mode send 3: other line's",
+    "mode send 4",
+    "mode send 5: count 0",
+    "mode send 5: count 21",
+    "mode send 5: count above 21",
+    "mode send 5: node above 199",
+    "mode send 5: node not in use",
+    "mode send 5: node named twice",
+    "mode send 5: priority",
+    "mode send 5: lock",
+    "mode send 5: originator",
+    "mode send 5: several causes",
+    "slot again after close",
+    "slot again after finish",
+    "slot again after remove",
+    "slot again after virgin",
+    "slot again after start",
+    "show: plain, bytes held",
+    "show: escaped",
+    "show: skip1",
+    "show: skip2",
+];
+
+/// A command sent with so many data bytes, before or after login.
+type Sent = (u16, usize, bool);
+
+#[derive(Clone)]
+pub struct Reach {
+    counts: HashMap<&'static str, u64>,
+    sent: BTreeSet<Sent>,
+    unknown: BTreeSet<u16>,
+    pub scripts: u64,
+    pub calls: u64,
+    pub bytes: u64,
+}
+
+impl Default for Reach {
+    fn default() -> Self {
+        Reach {
+            counts: rows().map(|row| (row, 0)).collect(),
+            sent: BTreeSet::new(),
+            unknown: BTreeSet::new(),
+            scripts: 0,
+            calls: 0,
+            bytes: 0,
+        }
+    }
+}
+
+/// All rows in the order in which they are shown.
+fn rows() -> impl Iterator<Item = &'static str> {
+    ROWS.into_iter().chain(Bad::ALL.map(Bad::name))
+}
+
+/// The data lengths to try with a command: its least and its greatest, and
+/// the next ones outside.
+pub fn lengths(entry: &Entry) -> Vec<usize> {
+    let mut lengths = vec![entry.least, entry.greatest, entry.greatest + 1];
+    lengths.extend(entry.least.checked_sub(1));
+    lengths.retain(|&length| length <= DATA_MOST);
+    lengths.sort();
+    lengths.dedup();
+    lengths
+}
+
+/// All that must be sent of the directory.
+fn to_send() -> impl Iterator<Item = Sent> {
+    let cases = |entry: &Entry| {
+        let number = entry.number;
+        let both = move |length| [(number, length, false), (number, length, true)];
+        lengths(entry).into_iter().flat_map(both)
+    };
+    ENTRIES.iter().flat_map(cases)
+}
+
+impl Reach {
+    /// The model's answers to a script, all of which is counted.
+    pub fn answer(&mut self, script: &[u8]) -> Vec<u8> {
+        let mut replay = Replay::new();
+        let mut watch = Watch::default();
+        let mut answers = Vec::new();
+        let mut line = Vec::new();
+        let mut lines = Lines::new(script);
+        while lines.next(&mut line).expect("memory is read") {
+            watch.look(&replay);
+            let told = replay.line(&line, &mut answers);
+            self.calls += 1;
+            match (Call::parse(&line), &told) {
+                (_, Told::Bad(bad)) => self.count(bad.name()),
+                (Ok(call), told) => {
+                    self.count_lent(&call);
+                    self.count_told(&call, told);
+                    self.count_state(&call, told, &replay, &mut watch);
+                }
+                (Err(_), _) => {}
+            }
+        }
+        self.scripts += 1;
+        self.bytes += script.len() as u64;
+        answers
+    }
+
+    fn count(&mut self, row: &str) {
+        match self.counts.get_mut(row) {
+            Some(count) => *count += 1,
+            None => panic!("{row} is no row"),
+        }
+    }
+
+    fn count_lent(&mut self, call: &Call) {
+        const SHORT: usize = TABLE - 1;
+        const LONG: usize = TABLE + 1;
+        if let Call::Start { table, .. } | Call::Enrol { table, .. } | Call::Feed { table, .. } =
+            call
+        {
+            match *table {
+                TABLE => {}
+                0 => self.count("table 0"),
+                SHORT => self.count("table one byte short"),
+                LONG => self.count("table one byte long"),
+                1..TABLE => self.count("table shorter"),
+                _ => self.count("table longer"),
+            }
+        }
+        if let Call::Feed { room, .. } | Call::Finish { room, .. } = call {
+            match room {
+                0 => self.count("room 0"),
+                511 => self.count("room 511"),
+                512 => self.count("room 512"),
+                1024 => self.count("room 1024"),
+                _ => {}
+            }
+        }
+    }
+
+    fn count_told(&mut self, call: &Call, told: &Told) {
+        match told {
+            Told::Refused(refusals) => {
+                let numbers: Vec<_> = refusals.all().iter().map(u32::to_string).collect();
+                self.count(&format!(
+                    "{} refused {}",
+                    word(call),
+                    numbers.join(" before ")
+                ));
+            }
+            Told::Done | Told::Finished(_) => self.count(&format!("{} done", word(call))),
+            Told::Fed(fed) => {
+                for remark in &fed.remarks {
+                    self.count(remark);
+                }
+                match fed.outcome {
+                    None => self.count("feed: no outcome"),
+                    Some(Outcome::Refused(refusal)) => {
+                        self.count(&format!("packet {}", refusal as u8))
+                    }
+                    Some(Outcome::Frame { data, .. }) if data == DATA_MOST => {
+                        self.count("feed: 250 data bytes")
+                    }
+                    Some(Outcome::Frame { .. }) => {}
+                }
+            }
+            Told::Bad(_) | Told::Shown => {}
+        }
+    }
+
+    /// Counts what shows only beside the state before or after the call.
+    fn count_state(&mut self, call: &Call, told: &Told, after: &Replay, watch: &mut Watch) {
+        match (call, told) {
+            (Call::Enrol { node: 199, .. }, Told::Done) => self.count("node 199 enrolled"),
+            (
+                Call::Enrol {
+                    node: 200,
+                    table: TABLE,
+                    ..
+                },
+                _,
+            ) => self.count("node 200 refused"),
+            (Call::Show, _) => self.count_shown(after),
+            (Call::Feed { line, bytes, .. }, Told::Fed(fed)) => {
+                let line = usize::from(*line);
+                if bytes.is_empty() {
+                    self.count("feed: no bytes");
+                }
+                if fed.used < bytes.len() {
+                    self.count("feed: bytes not used");
+                }
+                if fed.outcome.is_some() && !watch.between[line] {
+                    self.count("feed: ends what others began");
+                }
+                if let Some(Outcome::Frame { command, data }) = fed.outcome {
+                    self.count_sent(command, data, watch.logins[line]);
+                }
+            }
+            _ => {}
+        }
+        for row in watch.slots_again(call, told, after) {
+            self.count(&row);
+        }
+    }
+
+    fn count_shown(&mut self, replay: &Replay) {
+        for record in &replay.records {
+            match mode_name(record.mode()) {
+                "plain" if record.held().is_empty() => {}
+                "plain" => self.count("show: plain, bytes held"),
+                other => self.count(&format!("show: {other}")),
+            }
+        }
+    }
+
+    fn count_sent(&mut self, command: u16, data: usize, login: bool) {
+        if directory::find(command).is_some() {
+            self.sent.insert((command, data, login));
+        } else {
+            self.unknown.insert(command);
+        }
+    }
+
+    pub fn add(&mut self, other: &Reach) {
+        for (row, count) in &other.counts {
+            *self.counts.entry(row).or_default() += count;
+        }
+        self.sent.extend(&other.sent);
+        self.unknown.extend(&other.unknown);
+        self.scripts += other.scripts;
+        self.calls += other.calls;
+        self.bytes += other.bytes;
+    }
+
+    /// The rows that were never reached.
+    pub fn missing_rows(&self) -> Vec<&'static str> {
+        rows().filter(|row| self.counts[row] == 0).collect()
+    }
+
+    /// All that was never reached.
+    pub fn missing(&self) -> Vec<String> {
+        let mut missing: Vec<String> = self.missing_rows().into_iter().map(String::from).collect();
+        for (number, data, login) in to_send().filter(|sent| !self.sent.contains(sent)) {
+            let when = if login { "after" } else { "before" };
+            missing.push(format!("{number:04X} with {data} data bytes {when} login"));
+        }
+        if self.unknown.len() < UNKNOWN_LEAST {
+            missing.push(format!("{UNKNOWN_LEAST} unknown numbers"));
+        }
+        missing
+    }
+}
+
+fn word(call: &Call) -> &'static str {
+    match call {
+        Call::Start { .. } => "start",
+        Call::Enrol { .. } => "enrol",
+        Call::Feed { .. } => "feed",
+        Call::Close { .. } => "close",
+        Call::Finish { .. } => "finish",
+        Call::Show => "show",
+    }
+}
+
+/// The state before a call, as far as it is counted, and what freed each
+/// slot last.
+#[derive(Default)]
+struct Watch {
+    logins: [bool; LINES],
+    between: [bool; LINES],
+    used: [bool; SLOTS],
+    freed: [Option<&'static str>; SLOTS],
+}
+
+impl Watch {
+    fn look(&mut self, replay: &Replay) {
+        self.logins = replay.hub.logins;
+        for (between, record) in self.between.iter_mut().zip(&replay.records) {
+            *between = record.is_between_packets();
+        }
+        self.used = used(replay);
+    }
+
+    /// Rows for the slots that the call takes, and a note of those it frees.
+    fn slots_again(&mut self, call: &Call, told: &Told, after: &Replay) -> Vec<String> {
+        let mut rows = Vec::new();
+        let now = used(after);
+        for ((freed, before), now) in self.freed.iter_mut().zip(self.used).zip(now) {
+            match (before, now) {
+                (true, false) => *freed = Some(freer(call, told)),
+                (false, true) => rows.extend(freed.map(|by| format!("slot again after {by}"))),
+                _ => {}
+            }
+        }
+        rows
+    }
+}
+
+fn used(replay: &Replay) -> [bool; SLOTS] {
+    let slots = &replay.hub.sessions.slots;
+    std::array::from_fn(|slot| slots[slot].is_some())
+}
+
+/// What closed a session: a host call, or one of two requests.
+fn freer(call: &Call, told: &Told) -> &'static str {
+    match told {
+        Told::Fed(fed)
+            if fed
+                .remarks
+                .iter()
+                .any(|remark| remark.starts_with("virgin")) =>
+        {
+            "virgin"
+        }
+        Told::Fed(_) => "remove",
+        _ => word(call),
+    }
+}
+
+/// A line for each row, and what was sent of the directory.
+impl fmt::Display for Reach {
+    fn fmt(&self, out: &mut fmt::Formatter) -> fmt::Result {
+        for row in rows() {
+            writeln!(out, "{:>9}  {row}", self.counts[row])?;
+        }
+        let all = to_send().count();
+        let sent = to_send().filter(|sent| self.sent.contains(sent)).count();
+        writeln!(
+            out,
+            "{sent:>9}  of {all} known commands with a length and a login"
+        )?;
+        writeln!(out, "{:>9}  unknown commands", self.unknown.len())?;
+        writeln!(
+            out,
+            "{:>9}  calls in {} scripts of {} bytes",
+            self.calls, self.scripts, self.bytes
+        )
+    }
+}

@@ -1,0 +1,187 @@
+//! Host calls: the usual ones, and ones with any numbers and lengths.
+
+use super::requests;
+use super::writer::Writer;
+use crate::hub::commands::PASSWORD_ENTER;
+use crate::hub::nodes::{self, NODES, TABLE};
+use crate::hub::{LINES, PASSWORD};
+use crate::random::Random;
+use crate::replay::call::Call;
+use crate::sender;
+
+/// Most scripts begin with a start, some nodes and some logins.
+pub fn set_up(writer: &mut Writer) {
+    if !writer.random.once_in(10) {
+        start(writer);
+    }
+    let count = writer.random.pick(&[0, 3, 10, 30, 30, NODES]);
+    for _ in 0..count {
+        enrol(writer);
+    }
+    for line in 0..LINES as u8 {
+        if writer.random.once_in(2) {
+            let password = writer.replay.hub.password;
+            writer.send_one(line, sender::wire(PASSWORD_ENTER, &password));
+        }
+    }
+}
+
+/// The state at the end. Some scripts have no last LF, some an empty line.
+pub fn end(writer: &mut Writer) {
+    writer.call(Call::Show);
+    match writer.random.below(8) {
+        0 => {
+            writer.script.pop();
+        }
+        1 => {
+            writer.line(b"");
+        }
+        _ => {}
+    }
+}
+
+/// A password that often has zeros in it.
+pub fn password(random: &mut Random) -> Vec<u8> {
+    let zero_from = random.pick(&[0, 1, 10, PASSWORD - 1, PASSWORD]);
+    let mut password: Vec<u8> = (0..PASSWORD).map(|_| random.byte()).collect();
+    password[zero_from..].fill(0);
+    if random.once_in(2) {
+        password[PASSWORD - 1] = random.byte();
+    }
+    password
+}
+
+fn start(writer: &mut Writer) {
+    let password = password(&mut writer.random);
+    writer.call(Call::Start {
+        password,
+        table: TABLE,
+    });
+}
+
+/// Enrols a node, one that is not in use if there is one.
+fn enrol(writer: &mut Writer) {
+    let free = |node: &u8| !nodes::in_use(writer.replay.table(), *node);
+    let free: Vec<u8> = (0..NODES as u8).filter(free).collect();
+    let node = if free.is_empty() {
+        0
+    } else {
+        writer.random.pick(&free)
+    };
+    let kind = writer.random.draw() as u16;
+    writer.call(Call::Enrol {
+        node,
+        kind,
+        table: TABLE,
+    });
+}
+
+pub fn enrol_some(writer: &mut Writer) {
+    for _ in 0..writer.random.between(1, 12) {
+        enrol(writer);
+    }
+}
+
+pub fn close(writer: &mut Writer, line: u8) {
+    writer.call(Call::Close { line });
+}
+
+/// Finishes an open session if there is one.
+fn finish(writer: &mut Writer) {
+    let open: Vec<u16> = writer
+        .replay
+        .hub
+        .sessions
+        .open()
+        .map(|open| open.number)
+        .collect();
+    if open.is_empty() {
+        return any_call(writer);
+    }
+    let session = writer.random.pick(&open);
+    let room = writer.right_room();
+    writer.call(Call::Finish { session, room });
+}
+
+/// A call that a host makes between the feeds.
+pub fn usual_call(writer: &mut Writer) {
+    match writer.random.below(40) {
+        0..12 => enrol_some(writer),
+        12..24 => finish(writer),
+        24..29 => {
+            let line = writer.random.below(LINES) as u8;
+            close(writer, line);
+        }
+        29..32 => {
+            writer.call(Call::Show);
+        }
+        32 => {
+            start(writer);
+            enrol_some(writer);
+        }
+        _ => any_call(writer),
+    }
+}
+
+/// A call with any numbers and lengths.
+pub fn any_call(writer: &mut Writer) {
+    let call = drawn_call(writer);
+    writer.call(call);
+}
+
+pub fn drawn_call(writer: &mut Writer) -> Call {
+    match writer.random.below(12) {
+        0 if writer.random.once_in(4) => Call::Show,
+        0 | 1 => Call::Start {
+            password: any_password(&mut writer.random),
+            table: writer.any_table(),
+        },
+        2..5 => Call::Enrol {
+            node: any_node(writer),
+            kind: writer.random.draw() as u16,
+            table: writer.any_table(),
+        },
+        5 => Call::Close {
+            line: any_line(&mut writer.random),
+        },
+        6..9 => Call::Finish {
+            session: requests::any_session(writer),
+            room: writer.any_room(),
+        },
+        _ => Call::Feed {
+            line: any_line(&mut writer.random),
+            room: writer.any_room(),
+            bytes: any_bytes(&mut writer.random),
+            table: writer.any_table(),
+        },
+    }
+}
+
+fn any_line(random: &mut Random) -> u8 {
+    let any = random.byte();
+    let right = random.below(LINES) as u8;
+    random.pick(&[right, right, 4, any])
+}
+
+fn any_node(writer: &mut Writer) -> u8 {
+    let any = writer.random.byte();
+    let used = nodes::all_in_use(writer.replay.table());
+    let used = if used.is_empty() {
+        any
+    } else {
+        writer.random.pick(&used)
+    };
+    writer.random.pick(&[any, used, 0, 199, 200, 255])
+}
+
+fn any_password(random: &mut Random) -> Vec<u8> {
+    let any = random.below(80);
+    let length = random.pick(&[0, 1, PASSWORD - 1, PASSWORD + 1, any, PASSWORD, PASSWORD]);
+    (0..length).map(|_| random.byte()).collect()
+}
+
+fn any_bytes(random: &mut Random) -> Vec<u8> {
+    let mut bytes = requests::capture(random);
+    bytes.truncate(random.pick(&[0, 5, 40, 2000]));
+    bytes
+}
