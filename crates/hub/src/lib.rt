@@ -88,7 +88,7 @@ pub fn first() -> Hub
 fn fresh(password: [u8; 32]) -> Hub
     ensures { λ r. ⌜ r ≡ freshHub password ⌝ }
 {
-    let slots = sessions::none();
+    let slots = slots::none();
     Hub {
         password: password,
         logins: [false; 4],
@@ -173,7 +173,7 @@ fn closed_line(hub: Hub, line: u8) -> Hub
     let before = hub.logins;
     let opened = hub.slots;
     let logins = access::with_login(before, line, false);
-    let slots = sessions::close_line(opened, line);
+    let slots = slots::close_line(opened, line);
     Hub {
         password: password,
         logins: logins,
@@ -192,7 +192,7 @@ pub fn finish(hub: Hub, session: u16, room: &mut [u8]) -> Finished
         };
     }
     let opened = hub.slots;
-    let ended = sessions::finish(opened, session);
+    let ended = slots::finish(opened, session);
     let told = ended.told;
     let slots = ended.slots;
     match told {

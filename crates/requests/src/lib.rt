@@ -212,7 +212,7 @@ fn remove_nodes(hub: Hub, table: &mut [u8], room: &mut [u8], bits: &[u8]) -> Ser
     ensures { λ r. ⌜ Serves (removeNodes hub (now (table .entry)) (now (bits .entry))) (now (room .entry)) r (now (table .exit)) (now (room .exit)) ⌝ }
 {
     let slots = hub.slots;
-    let left = sessions::close_removed(slots, table, bits);
+    let left = slots::close_removed(slots, table, bits);
     nodes::remove(table, bits);
     let scene_deleted = [0];
     let n = reply(room, 0x0107, &scene_deleted);
@@ -236,7 +236,7 @@ fn virgin_state(hub: Hub, table: &mut [u8], room: &mut [u8]) -> Served
 fn close_all(slots: [Slot; 8]) -> [Slot; 8]
     ensures { λ r. ⌜ r ≡ closeAll slots ⌝ }
 {
-    sessions::none()
+    slots::none()
 }
 
 fn mode_send(hub: Hub, table: &[u8], room: &mut [u8], line: u8, payload: &[u8]) -> Served
@@ -244,8 +244,8 @@ fn mode_send(hub: Hub, table: &[u8], room: &mut [u8], line: u8, payload: &[u8]) 
     ensures { λ r. ⌜ Answered (modeSend hub (now (table .entry)) line (now (payload .entry)) .hub) (modeSend hub (now (table .entry)) line (now (payload .entry)) .reply) (now (room .entry)) r (now (room .exit)) ⌝ }
 {
     let slots = hub.slots;
-    let asked = sessions::request(payload);
-    let sent = sessions::mode_send(slots, table, line, asked);
+    let asked = targets::request(payload);
+    let sent = opening::mode_send(slots, table, line, asked);
     let left = sent.slots;
     let confirm = [payload[0], payload[1], sent.status];
     let n = reply(room, 0x0321, &confirm);

@@ -4,7 +4,7 @@ use Rattle.hub.proofs.fresh.Statement.{statement}
 use Rattle.hub.proofs.fresh.Tie as tie
 use Rattle.hub.proofs.fresh.Reads as reads
 use Rattle.hub.proofs.fresh.Lts as lts
-use Rattle.sessions.proofs.none.Reads as none-reads
+use Rattle.slots.proofs.none.Reads as none-reads
 
 -- src/lib.rt:91:9
 none-requires : tie.Need-none-requires

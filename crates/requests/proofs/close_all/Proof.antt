@@ -7,7 +7,7 @@ use Rattle.requests.proofs.close_all.Statement.{statement}
 use Rattle.requests.proofs.close_all.Tie as tie
 use Rattle.requests.proofs.close_all.Reads as reads
 use Rattle.requests.proofs.close_all.Lts as lts
-use Rattle.sessions.proofs.none.Reads as none-reads
+use Rattle.slots.proofs.none.Reads as none-reads
 
 -- src/lib.rt:215:5
 none-requires : tie.Need-none-requires

@@ -1,0 +1,55 @@
+use Prim.Native.Nat.{_≤_, _-_}
+use mathlib.Core.Bool.{false}
+use mathlib.Core.Path.{_≡_, refl, sym, _∙_}
+use lib.ListN.{length, drop, replicate}
+use borrow.Author.Needs.{needs}
+use Rattle.sessions.specs.Sessions.{targetCount, marked}
+use Rattle.sessions.specs.SessionLaws.{marked-on, marked-end}
+use Rattle.opening.proofs.marked.Statement.{statement}
+use Rattle.opening.proofs.marked.Tie as tie
+
+-- The indices before the place are marked.
+abbrev Inv-loop : tie.InvT-loop
+Inv-loop indices marks₀ i₀ marks i = (i ≤ length indices) × (marked (replicate targetCount false) indices ≡ marked marks (drop i indices))
+
+abbrev μ-loop : tie.MeasureT-loop
+μ-loop indices marks₀ i₀ marks i = length indices - i
+
+loop-holds : tie.Need-loop-holds Inv-loop μ-loop
+loop-holds c = (search needs, refl)
+
+shared-slice-read-wide : tie.Need-shared-slice-read-wide Inv-loop μ-loop
+shared-slice-read-wide c = search needs
+
+wide-requires : tie.Need-wide-requires Inv-loop μ-loop
+wide-requires c κs = search needs
+
+with-mark-requires : tie.Need-with-mark-requires Inv-loop μ-loop
+with-mark-requires c κs = search needs
+
+add-i : tie.Need-add-i Inv-loop μ-loop
+add-i c = search needs
+
+loop-less : tie.Need-loop-less Inv-loop μ-loop
+loop-less c = search needs
+
+loop-again : tie.Need-loop-again Inv-loop μ-loop
+loop-again c = (search needs, c .before .before .before .before .loop .inv .1 ∙ marked-on _ _ _ (c .before .before .before .loop-test .taken) ∙ rw (← c .before .wide .ensures, ← c .with-mark .ensures))
+
+returns : tie.Need-returns Inv-loop μ-loop
+returns c = sym (c .before .loop .inv .1 ∙ marked-end _ _ _ (c .loop-test .left))
+
+pub marked-spec : {M : Type 1} → statement M
+marked-spec =
+    tie.close
+    (tie.spec
+    Inv-loop
+    μ-loop
+    loop-holds
+    shared-slice-read-wide
+    wide-requires
+    with-mark-requires
+    add-i
+    loop-less
+    loop-again
+    returns)

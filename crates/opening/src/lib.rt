@@ -1,0 +1,140 @@
+// A mode send: the first status that applies, or a session opened (document 01, mode send).
+// The answer is the definition's: crate sessions, specs/Sessions.antt. It stands on the slots and on what is legal.
+ghost use Prim.Native.Nat.{_≤_};
+ghost use mathlib.Core.Path.{_≡_};
+ghost use mathlib.Core.Bool.{true, false};
+ghost use lib.ListN.{set, replicate};
+ghost use Rattle.sessions.specs.Search.{any, first};
+ghost use Rattle.sessions.specs.Sessions.{targetCount, isFree, holds, maxIndices, marked, sessionSlot, modeSend};
+use sessions::ModeSend;
+use sessions::Sent;
+use sessions::Slot;
+
+// A mode send on a line: the first status that applies, and where none does the lowest free slot takes the session.
+pub fn mode_send(slots: [Slot; sessions::SLOTS], table: &[u8], line: u8, request: ModeSend) -> Sent
+    ensures { λ r. ⌜ r ≡ modeSend slots (now (table .entry)) line request ⌝ }
+{
+    if !targets::is_legal(table, request) {
+        return Sent {
+            slots: slots,
+            status: sessions::ILLEGAL_PARAMETER,
+        };
+    }
+    let number = request.session;
+    if slots::first_numbered(slots, number) < sessions::SLOTS {
+        return Sent {
+            slots: slots,
+            status: sessions::SESSION_IN_USE,
+        };
+    }
+    let k = first_free(slots);
+    if sessions::SLOTS <= k {
+        return Sent {
+            slots: slots,
+            status: sessions::NO_FREE_SLOT,
+        };
+    }
+    let indices = request.indices;
+    let count = wide(request.count);
+    if any_held(slots, &indices[..count]) {
+        return Sent {
+            slots: slots,
+            status: sessions::REJECTED,
+        };
+    }
+    let mut out = slots;
+    out[k] = session_slot(line, request);
+    Sent {
+        slots: out,
+        status: sessions::ACCEPTED,
+    }
+}
+
+fn first_free(slots: [Slot; sessions::SLOTS]) -> usize
+    ensures { λ r. ⌜ r ≡ first isFree slots ⌝ }
+{
+    let mut k = 0;
+    while k < sessions::SLOTS {
+        let slot = slots[k];
+        if !slot.used {
+            return k;
+        }
+        k += 1;
+    }
+    k
+}
+
+// Whether some open session holds a node, and whether one holds some of these nodes.
+fn is_held(slots: [Slot; sessions::SLOTS], node: usize) -> bool
+    ensures { λ r. ⌜ r ≡ any (holds node) slots ⌝ }
+{
+    let mut k = 0;
+    while k < sessions::SLOTS {
+        if slots::holds(slots[k], node) {
+            return true;
+        }
+        k += 1;
+    }
+    false
+}
+
+fn any_held(slots: [Slot; sessions::SLOTS], indices: &[u8]) -> bool
+    ensures { λ r. ⌜ r ≡ any (λ n. any (holds n) slots) (now (indices .entry)) ⌝ }
+{
+    let mut i = 0;
+    while i < indices.len() {
+        let node = wide(indices[i]);
+        if is_held(slots, node) {
+            return true;
+        }
+        i += 1;
+    }
+    false
+}
+
+// The slot of a new session.
+fn session_slot(line: u8, request: ModeSend) -> Slot
+    requires { ⌜ request .count ≤ maxIndices ⌝ }
+    ensures { λ r. ⌜ r ≡ sessionSlot line request ⌝ }
+{
+    let number = request.session;
+    let indices = request.indices;
+    let count = wide(request.count);
+    let nodes = marked(&indices[..count]);
+    Slot {
+        used: true,
+        number,
+        line,
+        nodes,
+    }
+}
+
+// The nodes that the indices name.
+fn marked(indices: &[u8]) -> [bool; sessions::TARGETS]
+    ensures { λ r. ⌜ r ≡ marked (replicate targetCount false) (now (indices .entry)) ⌝ }
+{
+    let mut marks = [false; sessions::TARGETS];
+    let mut i = 0;
+    while i < indices.len() {
+        let next = with_mark(marks, wide(indices[i]));
+        marks = next;
+        i += 1;
+    }
+    marks
+}
+
+fn with_mark(marks: [bool; sessions::TARGETS], node: usize) -> [bool; sessions::TARGETS]
+    ensures { λ r. ⌜ r ≡ set marks node true ⌝ }
+{
+    let mut out = marks;
+    if node < sessions::TARGETS {
+        out[node] = true;
+    }
+    out
+}
+
+fn wide(x: u8) -> usize
+    ensures { λ r. ⌜ r ≡ x ⌝ }
+{
+    x as usize
+}

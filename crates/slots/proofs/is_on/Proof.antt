@@ -1,0 +1,12 @@
+use borrow.Author.Needs.{needs}
+use Rattle.slots.proofs.is_on.Statement.{statement}
+use Rattle.slots.proofs.is_on.Tie as tie
+
+returns : tie.Need-returns
+returns c = simp (c .before .if1 .taken)
+
+returns-2 : tie.Need-returns-2
+returns-2 c = search needs
+
+pub is-on-spec : {M : Type 1} → statement M
+is-on-spec = tie.close (tie.spec returns returns-2)

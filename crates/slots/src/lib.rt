@@ -1,0 +1,171 @@
+// The session slots: closing sessions, and finding one by its number (document 01, host calls and remove nodes).
+// Each answer is the definition's: crate sessions, specs/Sessions.antt. It stands on the sessions' rules and the node table.
+ghost use mathlib.Core.Path.{_≡_};
+ghost use mathlib.Core.Bool.{_&&_, _||_};
+ghost use lib.ListN.{replicate};
+ghost use Rattle.nodes.specs.Table.{isRemoved};
+ghost use Rattle.sessions.specs.Search.{first};
+ghost use Rattle.sessions.specs.Sessions.{slotCount, closedSlot, isNumbered, isOn, holds, closeIf, closeLine, holdsRemoved, closeRemoved, finish, ended};
+use sessions::Ended;
+use sessions::Slot;
+use sessions::Told;
+
+// No open session.
+pub fn none() -> [Slot; sessions::SLOTS]
+    ensures { λ r. ⌜ r ≡ replicate slotCount closedSlot ⌝ }
+{
+    let slot = closed_slot();
+    [slot; sessions::SLOTS]
+}
+
+// The sessions of a line close.
+pub fn close_line(slots: [Slot; sessions::SLOTS], line: u8) -> [Slot; sessions::SLOTS]
+    ensures { λ r. ⌜ r ≡ closeLine line slots ⌝ }
+{
+    let mut out = slots;
+    let mut k = 0;
+    while k < sessions::SLOTS {
+        out[k] = close_if_on(slots[k], line);
+        k += 1;
+    }
+    out
+}
+
+// The sessions with a node that is removed close.
+pub fn close_removed(
+    slots: [Slot; sessions::SLOTS],
+    table: &[u8],
+    bits: &[u8],
+) -> [Slot; sessions::SLOTS]
+    ensures { λ r. ⌜ r ≡ closeRemoved (now (table .entry)) (now (bits .entry)) slots ⌝ }
+{
+    let mut out = slots;
+    let mut k = 0;
+    while k < sessions::SLOTS {
+        out[k] = close_if_removed(slots[k], table, bits);
+        k += 1;
+    }
+    out
+}
+
+// The session with a number closes, in the lowest slot that has it.
+pub fn finish(slots: [Slot; sessions::SLOTS], number: u16) -> Ended
+    ensures { λ r. ⌜ r ≡ ended slots (finish slots number) ⌝ }
+{
+    let k = first_numbered(slots, number);
+    if sessions::SLOTS <= k {
+        return Ended {
+            told: Told::NotOpen,
+            slots: slots,
+        };
+    }
+    let slot = slots[k];
+    let line = slot.line;
+    let mut out = slots;
+    out[k] = closed_slot();
+    Ended {
+        told: Told::Line(line),
+        slots: out,
+    }
+}
+
+// A free slot.
+fn closed_slot() -> Slot
+    ensures { λ r. ⌜ r ≡ closedSlot ⌝ }
+{
+    Slot {
+        used: false,
+        number: 0,
+        line: 0,
+        nodes: [false; sessions::TARGETS],
+    }
+}
+
+fn close_if_on(slot: Slot, line: u8) -> Slot
+    ensures { λ r. ⌜ r ≡ closeIf (isOn line) slot ⌝ }
+{
+    if is_on(slot, line) {
+        return closed_slot();
+    }
+    slot
+}
+
+fn close_if_removed(slot: Slot, table: &[u8], bits: &[u8]) -> Slot
+    ensures { λ r. ⌜ r ≡ closeIf (holdsRemoved (now (table .entry)) (now (bits .entry))) slot ⌝ }
+{
+    if holds_removed(slot, table, bits) {
+        return closed_slot();
+    }
+    slot
+}
+
+// Whether a session has a node that is removed.
+fn holds_removed(slot: Slot, table: &[u8], bits: &[u8]) -> bool
+    ensures { λ r. ⌜ r ≡ holdsRemoved (now (table .entry)) (now (bits .entry)) slot ⌝ }
+{
+    let mut found = false;
+    let mut k = 0;
+    while k < nodes::NODES {
+        found = found_removed(found, slot, table, bits, k);
+        k += 1;
+    }
+    found
+}
+
+// Whether one was found before, or node k is one.
+fn found_removed(found: bool, slot: Slot, table: &[u8], bits: &[u8], k: usize) -> bool
+    ensures { λ r. ⌜ r ≡ (found || (holds k slot && isRemoved (now (table .entry)) (now (bits .entry)) k)) ⌝ }
+{
+    if found {
+        return true;
+    }
+    if holds(slot, k) {
+        return nodes::is_removed(table, bits, k);
+    }
+    false
+}
+
+// Whether an open session is on a line, has a number, holds a node.
+fn is_on(slot: Slot, line: u8) -> bool
+    ensures { λ r. ⌜ r ≡ isOn line slot ⌝ }
+{
+    if slot.used {
+        return slot.line == line;
+    }
+    false
+}
+
+fn is_numbered(slot: Slot, number: u16) -> bool
+    ensures { λ r. ⌜ r ≡ isNumbered number slot ⌝ }
+{
+    if slot.used {
+        return slot.number == number;
+    }
+    false
+}
+
+pub fn holds(slot: Slot, node: usize) -> bool
+    ensures { λ r. ⌜ r ≡ holds node slot ⌝ }
+{
+    if slot.used {
+        if node < sessions::TARGETS {
+            let nodes = slot.nodes;
+            return nodes[node];
+        }
+    }
+    false
+}
+
+// The lowest slot with a number, and the lowest free one; `SLOTS` where there is none.
+pub fn first_numbered(slots: [Slot; sessions::SLOTS], number: u16) -> usize
+    ensures { λ r. ⌜ r ≡ first (isNumbered number) slots ⌝ }
+{
+    let mut k = 0;
+    while k < sessions::SLOTS {
+        if is_numbered(slots[k], number) {
+            return k;
+        }
+        k += 1;
+    }
+    k
+}

@@ -1,0 +1,38 @@
+use mathlib.Core.Bool.{true, false}
+use mathlib.Core.Path.{_≡_, sym, _∙_}
+use lib.Dec.{ltb}
+use borrow.Author.Tests.{lt-ltb, le-ltb, not-true, not-false}
+use borrow.Author.Needs.{needs}
+use Rattle.nodes.specs.Table.{inUse}
+use Rattle.sessions.specs.Sessions.{targetCount}
+use Rattle.targets.proofs.is_target.Statement.{statement}
+use Rattle.targets.proofs.is_target.Tie as tie
+
+near : (c : tie.Else1) → ltb (c .before .before .before .before .args .index) targetCount ≡ true
+near c = rw (← c .before .wide .ensures) (lt-ltb _ _ (c .if1 .left))
+
+used : (c : tie.After-in-use) → c .in-use .result ≡ inUse (c .before .before .before .before .before .args .table .now) (c .before .before .before .before .before .args .index)
+used c = c .in-use .ensures ∙ rw (c .before .before .wide .ensures)
+
+wide-requires : tie.Need-wide-requires
+wide-requires c κs = search needs
+
+returns : tie.Need-returns
+returns c = let far : ltb (c .before .before .before .before .args .index) targetCount ≡ false = rw (← c .before .wide .ensures) (le-ltb _ _ (c .if1 .taken)) in simp far
+
+in-use-requires : tie.Need-in-use-requires
+in-use-requires c κs = search needs
+
+returns-2 : tie.Need-returns-2
+returns-2 c = simp (near (c .before .before), sym (used (c .before)) ∙ not-true _ (c .if2 .taken))
+
+is-member-requires : tie.Need-is-member-requires
+is-member-requires c κs = search needs
+
+returns-3 : tie.Need-returns-3
+returns-3 c = simp (near (c .before .before .before), sym (used (c .before .before)) ∙ not-false _ (c .before .if2 .left), c .is-member .ensures)
+
+pub is-target-spec : {M : Type 1} → statement M
+is-target-spec =
+    tie.close
+    (tie.spec wide-requires returns in-use-requires returns-2 is-member-requires returns-3)
