@@ -36,6 +36,12 @@ appended-within l at text h = go (leb (at + length text) (length l)) refl
 pub leaves-whole : {l m : List ℕ} {at next : ℕ} {text : List ℕ} → Wrote l at text m next → at + length text ≤ length l → Leaves (appended l at text) m next
 leaves-whole {l} {m} {at} {next} {text} w h = rw (appended-whole l at text h) (record { bytes = w .content; place = w .place })
 
+-- a text that fits was stored
+pub leaves-wrote : {l m : List ℕ} {at next : ℕ} {text : List ℕ} → at + length text ≤ length l → Leaves (appended l at text) m next → Wrote l at text m next
+leaves-wrote {l} {m} {at} {next} {text} h x =
+    let y = rw (appended-whole l at text h) at x in
+    record { content = y .bytes; place = y .place }
+
 pub leaves-none : (l : List ℕ) (at : ℕ) (text : List ℕ) → length l < at + length text → Leaves (appended l at text) l at
 leaves-none l at text h = rw (appended-none l at text h) (record { bytes = refl; place = refl })
 

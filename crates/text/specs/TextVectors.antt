@@ -2,6 +2,7 @@
 use mathlib.Core.Path.{_≡_, refl}
 use mathlib.Core.List.{[], _∷_}
 use Rattle.text.specs.Text.{ascii, digit, decimalIn, decimal, frameLine, refusedLine, leftLine, entryLine}
+use Rattle.text.specs.Bytes.{hexPairs, bytesWord}
 
 line-end : ascii "\n" ≡ 10 ∷ []
 unfolding ascii
@@ -34,3 +35,11 @@ entry-none = refl
 entry-any : entryLine 0x030A 0 250 ≡ ascii "030A 0 250\n"
 unfolding ascii digit decimalIn decimal entryLine
 entry-any = refl
+
+bytes-none : bytesWord [] ≡ ascii "-"
+unfolding ascii bytesWord
+bytes-none = refl
+
+bytes-some : bytesWord (0xC0 ∷ 0x0F ∷ 0x19 ∷ []) ≡ ascii "C00F19"
+unfolding ascii digit hexPairs bytesWord
+bytes-some = refl

@@ -1,15 +1,17 @@
 // The programs' output: lines of text, appended to lent memory at a place.
 // A line is written whole or not at all, and is the definition's to the byte: specs/Text.antt, specs/Appended.antt.
 // It stands on the store's runs of bytes.
-ghost use Prim.Native.Nat.{_+_, _-_, _≤_, _<_};
+ghost use Prim.Native.Nat.{_+_, _-_, _*_, _≤_, _<_};
 ghost use mathlib.Core.Path.{_≡_};
 ghost use mathlib.Core.List.{_++_};
 ghost use lib.ListN.{length};
+ghost use lib.Dec.{leb};
 ghost use Rattle.store.specs.Wrote.{Wrote};
 ghost use Rattle.text.specs.Text.{ascii, digit, decimal, hex4, frameLine, refusedLine, leftLine, entryLine};
+ghost use Rattle.text.specs.Bytes.{hex2, hexPairs, bytesWord, wordLength};
 ghost use Rattle.text.specs.Appended.{appended, Leaves};
 
-// No line is longer.
+// No line is longer, but one that tells bytes may be.
 pub const LINE: usize = 40;
 
 // "frame CCCC data D": a frame's command, and how many data bytes it has.
@@ -61,6 +63,52 @@ pub fn entry_line(out: &mut [u8], at: usize, command: u16, least: u8, greatest: 
     put(out, line_end, b"\n")
 }
 
+// Some bytes as they are; of this and the next two other lines are built.
+pub fn append(out: &mut [u8], at: usize, bytes: &[u8]) -> usize
+    ensures { λ r. ⌜ Leaves (appended (now (out .entry)) at (now (bytes .entry))) (now (out .exit)) r ⌝ }
+{
+    if out.len() < at {
+        return at;
+    }
+    if out.len() - at < bytes.len() {
+        return at;
+    }
+    put(out, at, bytes)
+}
+
+// A number in base ten.
+pub fn append_decimal(out: &mut [u8], at: usize, number: u64) -> usize
+    ensures { λ r. ⌜ Leaves (appended (now (out .entry)) at (decimal number)) (now (out .exit)) r ⌝ }
+{
+    let count = width(number);
+    if room(out.len(), at) < count {
+        return at;
+    }
+    decimal(out, at, count, number)
+}
+
+// The four hexadecimal digits of a number.
+pub fn append_hex4(out: &mut [u8], at: usize, number: u16) -> usize
+    ensures { λ r. ⌜ Leaves (appended (now (out .entry)) at (hex4 number)) (now (out .exit)) r ⌝ }
+{
+    if room(out.len(), at) < 4 {
+        return at;
+    }
+    hex4(out, at, number)
+}
+
+// A line that tells some bytes, between its two other parts.
+pub fn bytes_line(out: &mut [u8], at: usize, head: &[u8], bytes: &[u8], tail: &[u8]) -> usize
+    ensures { λ r. ⌜ Leaves (appended (now (out .entry)) at (now (head .entry) ++ bytesWord (now (bytes .entry)) ++ now (tail .entry))) (now (out .exit)) r ⌝ }
+{
+    if !fits(room(out.len(), at), head.len(), bytes.len(), tail.len()) {
+        return at;
+    }
+    let word = put(out, at, head);
+    let last = put_bytes(out, word, bytes);
+    put(out, last, tail)
+}
+
 // A short word, a number and the line's end.
 fn number_line(out: &mut [u8], at: usize, word: &[u8], number: u64) -> usize
     requires { ⌜ length (now word) ≤ 8 ⌝ }
@@ -83,6 +131,24 @@ fn room(len: usize, at: usize) -> usize
         return 0;
     }
     len - at
+}
+
+// Whether a line that tells `bytes` bytes fits, with its two other parts.
+fn fits(room: usize, head: usize, bytes: usize, tail: usize) -> bool
+    ensures { λ r. ⌜ r ≡ leb (head + wordLength bytes + tail) room ⌝ }
+{
+    if room < head {
+        return false;
+    }
+    let behind = room - head;
+    if behind < tail {
+        return false;
+    }
+    let between = behind - tail;
+    if bytes == 0 {
+        return 1 <= between;
+    }
+    bytes <= between / 2
 }
 
 // The bytes of `word`; each writer answers the place behind what it wrote.
@@ -142,6 +208,42 @@ fn hex4(out: &mut [u8], at: usize, number: u16) -> usize
     out[at + 2] = digit(n / 16 % 16);
     out[at + 3] = digit(n % 16);
     at + 4
+}
+
+// Bytes in hexadecimal, `-` for none.
+fn put_bytes(out: &mut [u8], at: usize, bytes: &[u8]) -> usize
+    requires { ⌜ at + length (bytesWord (now bytes)) ≤ length (now out) ⌝ }
+    ensures { λ r. ⌜ Wrote (now (out .entry)) at (bytesWord (now (bytes .entry))) (now (out .exit)) r ⌝ }
+{
+    if bytes.len() == 0 {
+        return put(out, at, b"-");
+    }
+    hex_pairs(out, at, bytes)
+}
+
+// Two digits for each byte.
+fn hex_pairs(out: &mut [u8], at: usize, bytes: &[u8]) -> usize
+    requires { ⌜ at + 2 * length (now bytes) ≤ length (now out) ⌝ }
+    ensures { λ r. ⌜ Wrote (now (out .entry)) at (hexPairs (now (bytes .entry))) (now (out .exit)) r ⌝ }
+{
+    let mut place = at;
+    let mut i = 0;
+    while i < bytes.len() {
+        place = hex2(out, place, bytes[i]);
+        i += 1;
+    }
+    place
+}
+
+// The two hexadecimal digits of a byte.
+fn hex2(out: &mut [u8], at: usize, byte: u8) -> usize
+    requires { ⌜ at + 2 ≤ length (now out) ⌝ }
+    ensures { λ r. ⌜ Wrote (now (out .entry)) at (hex2 byte) (now (out .exit)) r ⌝ }
+{
+    let n = byte as u64;
+    out[at] = digit(n / 16 % 16);
+    out[at + 1] = digit(n % 16);
+    at + 2
 }
 
 // The code of a digit: 0 to 9, then A to F.
