@@ -346,7 +346,7 @@ fn show_frame(name: &[u8], command: u16, b: u8, n: usize) {
         return;
     }
     let title = put_all(put_all(empty(), name), b": ");
-    let answer = frame::write(&mut room, command, &payload[0..n]);
+    let answer = writer::write(&mut room, command, &payload[0..n]);
     print(put_all(put_answer(title, answer, &room), b"\n"));
 }
 
@@ -358,7 +358,7 @@ fn show_short_room(n: usize) {
         return;
     }
     let title = put_all(put_decimal(put_all(empty(), b"room 511, data "), n), b": ");
-    let answer = frame::write(&mut room, 0x0206, &payload[0..n]);
+    let answer = writer::write(&mut room, 0x0206, &payload[0..n]);
     print(put_all(put_answer(title, answer, &room), b"\n"));
 }
 
@@ -379,7 +379,7 @@ fn show_at(start: usize, n: usize) {
     }
     let from = put_decimal(put_all(empty(), b"room 13, from "), start);
     let title = put_all(put_decimal(put_all(from, b", data "), n), b": ");
-    let answer = frame::write_at(&mut room, start, 0x0102, &payload[0..n]);
+    let answer = writer::write_at(&mut room, start, 0x0102, &payload[0..n]);
     let told = put_all(put_place(title, answer), b", room ");
     print(put_all(put_bytes(told, &room), b"\n"));
 }

@@ -94,12 +94,12 @@ pub record Demand3 (H : System) : Type 0 where
 
 module _ {H : System} where
   -- The line's state at the start is that of its record.
-  own-taken : (l : ℕ) (F : Feeds H) → own H l (worldOf (F .start)) ≡ taken (recordAt l F)
+  pub own-taken : (l : ℕ) (F : Feeds H) → own H l (worldOf (F .start)) ≡ taken (recordAt l F)
   unfolding worldOf
   own-taken l F = List·getD-map taken (F .start .records) l emptiedReading
 
   -- It is one of the lines that have a state.
-  has-line : (l : ℕ) (F : Feeds H) → Line l F → l < length (worldOf (F .start) .states)
+  pub has-line : (l : ℕ) (F : Feeds H) → Line l F → l < length (worldOf (F .start) .states)
   unfolding worldOf
   has-line l F x = omega (arith, length-map (F .start .records) taken)
 

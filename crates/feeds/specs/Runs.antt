@@ -106,7 +106,7 @@ module _ {H : System} where
   gotBy c q room = record { hub = c .hub; table = c .table; reading = q; answer = c .result .answer; room = c .result .reply ++ drop (length (c .result .reply)) room }
 
   -- The promise can be kept, whatever is lent.
-  promise-any : (h : H .Hub) (t : H .Table) (r : Reading) (l : ℕ) (bytes room : List ℕ) → (o : Got H) × Promise H h t r l bytes room o
+  pub promise-any : (h : H .Hub) (t : H .Table) (r : Reading) (l : ℕ) (bytes room : List ℕ) → (o : Got H) × Promise H h t r l bytes room o
   unfolding gotBy settled
   promise-any h t r l bytes room = go (H .refusal h t (taken r) l bytes (length room)) refl
     where

@@ -14,7 +14,7 @@ use Rattle.feeds.specs.CallLaws.{call-refused, answer-refused}
 use Rattle.feeds.specs.Service.{Lent, Got, Memory, entryOf, worldOf, lengthOf, resultOf, called, Promise, recordFor, leftBy, Run, stop, next, Feeds, entriesIn, resultsIn, answersIn}
 
 -- A list's elements mapped, with one set.
-map-set : {A B : Type 0} (f : A → B) (l : List A) (i : ℕ) (a : A) → map f (set l i a) ≡ set (map f l) i (f a)
+pub map-set : {A B : Type 0} (f : A → B) (l : List A) (i : ℕ) (a : A) → map f (set l i a) ≡ set (map f l) i (f a)
 map-set f [] i a = refl
 map-set f (x ∷ l) zero a = refl
 map-set f (x ∷ l) (suc i) a = ap (λ z. f x ∷ z) (map-set f l i a)
@@ -65,7 +65,7 @@ module _ {H : System} where
   same-fed a b c d = rw (a, b, c, d)
 
   -- A feed that keeps its promise does what the definition's feed does.
-  promise-feed : (m : Memory H) (g : Lent) {o : Got H} → Promise H (m .hub) (m .table) (recordFor H m g) (g .line) (g .bytes) (g .room) o
+  pub promise-feed : (m : Memory H) (g : Lent) {o : Got H} → Promise H (m .hub) (m .table) (recordFor H m g) (g .line) (g .bytes) (g .room) o
       → feed H (worldOf m) (entryOf g) ≡ (worldOf (leftBy H m g o), resultOf o)
   unfolding feed returned stateFor worldOf entryOf
   promise-feed m g {o} x =

@@ -1,6 +1,6 @@
 -- What the proofs of the functions share.
 use Prim.Native.Nat.{ℕ, zero, suc, _+_, _≤_, _<_}
-use mathlib.Core.Path.{_≡_, refl, sym, ap, ap₂, _∙_}
+use mathlib.Core.Path.{_≡_, refl, sym, ap, _∙_}
 use mathlib.Core.List.{List, [], _∷_}
 use native.Mathlib.Numerals.{add-one}
 use native.Mathlib.Nat.{zero-add, suc-add}
@@ -24,9 +24,7 @@ use Rattle.frame.specs.Frame.{refusal, frame, refused, judge}
 use Rattle.frame.specs.Reading.{State, takenAs, verdict, read}
 use Rattle.frame.specs.Answers.{Judges, told, answerOf, Answers}
 use Rattle.frame.specs.ReadingLaws.{judgedCall, read-judged}
-use Rattle.frame.specs.Code.{causeOf, outcomeOf, Judging, header}
-use Rattle.frame.specs.WireLaws.{check}
-use lib.Bits.{bitXor}
+use Rattle.frame.specs.Code.{causeOf, outcomeOf, Judging}
 use Rattle.frame.specs.Xor.{_⊕_, xorAll}
 use Rattle.frame.specs.XorLaws.{⊕-zero, xorAll-append}
 
@@ -36,11 +34,6 @@ pub xorAll-more : (l : List ℕ) (i : ℕ) → i < length l → xorAll (take (i 
 unfolding xorAll
 xorAll-more l i h =
     rw (add-one, take-suc l i 0, xorAll-append) (ap (λ (n : ℕ). xorAll (take i l) ⊕ n) (⊕-zero (getD l i 0)))
-
--- the check byte, from what the code computed
-pub check-byte : (h : List ℕ) (c : ℕ) (d : List ℕ) (x y : ℕ) → h ≡ header c (length d) → x ≡ xorAll h → y ≡ xorAll d → bitXor x y ≡ check c d
-unfolding _⊕_
-check-byte h c d x y e f g = ap₂ bitXor (f ∙ ap xorAll e) g
 
 -- ---- outcomes judged
 

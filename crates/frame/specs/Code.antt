@@ -33,6 +33,6 @@ pub record Judging (bs : List ℕ) (g : Got) (r : Outcome) : Type 0 where
   pub within : Within r
   pub full : length bs ≡ limit
 
--- `head_of`: the bytes before n data bytes
+-- `head_of` of the crate `writer`: the bytes before n data bytes
 abbrev pub header : ℕ → ℕ → List ℕ
 header c n = 0 ∷ (n + 3) ∷ c / 256 ∷ c % 256 ∷ []

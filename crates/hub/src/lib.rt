@@ -229,7 +229,7 @@ fn notice(room: &mut [u8], session: u16) -> usize
     ensures { λ r. ⌜ Replied (notice session) (now (room .entry)) r (now (room .exit)) ⌝ }
 {
     let bytes = [(session / 256) as u8, (session % 256) as u8];
-    match frame::write(room, 0x0304, &bytes) {
+    match writer::write(room, 0x0304, &bytes) {
         Written::Length(n) => n,
         Written::ShortRoom => 0,
         Written::LongData => 0,

@@ -288,7 +288,7 @@ fn reply(room: &mut [u8], command: u16, payload: &[u8]) -> usize
     requires { ⌜ (minRoom ≤ length (now room)) × (length (now payload) ≤ maxData) ⌝ }
     ensures { λ r. ⌜ Replied (wire command (now (payload .entry))) (now (room .entry)) r (now (room .exit)) ⌝ }
 {
-    match frame::write(room, command, payload) {
+    match writer::write(room, command, payload) {
         Written::Length(n) => n,
         Written::ShortRoom => 0,
         Written::LongData => 0,
@@ -300,7 +300,7 @@ fn reply_at(room: &mut [u8], start: usize, command: u16, payload: &[u8]) -> usiz
     requires { ⌜ (start + length (wire command (now payload)) ≤ length (now room)) × (length (now payload) ≤ maxData) ⌝ }
     ensures { λ r. ⌜ RepliedAt start (wire command (now (payload .entry))) (now (room .entry)) r (now (room .exit)) ⌝ }
 {
-    match frame::write_at(room, start, command, payload) {
+    match writer::write_at(room, start, command, payload) {
         WrittenAt::UpTo(n) => n,
         WrittenAt::NoFit => start,
         WrittenAt::LongData => start,

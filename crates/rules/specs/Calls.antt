@@ -7,7 +7,7 @@ use mathlib.Core.Option.{Option, none, some}
 use lib.ListN.{length, getD, set}
 use lib.Dec.{eqb}
 use Rattle.frame.specs.Frame.{Outcome, frame, refused}
-use Rattle.frame.specs.Reading.{emptied}
+use Rattle.frame.specs.Reading.{State}
 use Rattle.feeds.specs.System as feeds
 use Rattle.feeds.specs.Marks.{outcomeOf}
 use Rattle.rules.specs.declared.Hub.{Hub}
@@ -17,10 +17,11 @@ use Rattle.rules.specs.Hub as rules
 abbrev pub World : Type 0
 World = feeds.World rules.hub
 
+-- a call, by what it is given: room by its length, and a state for a line that has none of its own
 pub data Call : Type 0 where
   start : List ℕ → Call
   enrol : ℕ → ℕ → Call
-  close : ℕ → Call
+  close : ℕ → State → Call
   finish : ℕ → ℕ → Call
   feed : feeds.Entry → Call
 
@@ -30,8 +31,8 @@ after w (start p) =
     let r = rules.start (w .hub) (w .table) p in
     record { hub = r .hub; table = r .table; states = w .states }
 after w (enrol n type) = record { hub = w .hub; table = rules.enrol (w .table) n type .table; states = w .states }
-after w (close l) =
-    let r = rules.close (w .hub) (getD (w .states) l emptied) l in
+after w (close l spare) =
+    let r = rules.close (w .hub) (getD (w .states) l spare) l in
     record { hub = r .hub; table = w .table; states = set (w .states) l (r .state) }
 after w (finish x room) = record { hub = rules.finish (w .hub) x room .hub; table = w .table; states = w .states }
 after w (feed e) = feeds.feed rules.hub w e .0
@@ -56,7 +57,7 @@ unlessRefused (some n) b = b
 unfoldable pub loggedBy : ℕ → Bool → World → Call → Bool
 loggedBy l b w (start p) = unlessRefused (rules.startRefusal (w .table) p) b
 loggedBy l b w (enrol n type) = b
-loggedBy l b w (close k) = cond (eqb k l) false b
+loggedBy l b w (close k spare) = cond (eqb k l) false b
 loggedBy l b w (finish x room) = b
 loggedBy l b w (feed e) = cond (eqb (e .line) l && isPassword (w .hub) (outcomeOf (feeds.feed rules.hub w e .1 .answer))) true b
 
@@ -69,6 +70,6 @@ abbrev pub Unprivileged : World → List Call → Type 0
 Unprivileged w [] = Unit {0}
 Unprivileged w (start p ∷ cs) = ⊥
 Unprivileged w (enrol n type ∷ cs) = ⊥
-Unprivileged w (close l ∷ cs) = ⊥
+Unprivileged w (close l spare ∷ cs) = ⊥
 Unprivileged w (finish x room ∷ cs) = ⊥
 Unprivileged w (feed e ∷ cs) = (rules.isLoggedIn (w .hub) (e .line) ≡ false) × Unprivileged (after w (feed e)) cs

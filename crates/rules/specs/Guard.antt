@@ -68,7 +68,7 @@ unfolding after afterAll
 unprivileged-unchanged w [] x = record { table = refl; password = refl; sessions = refl }
 unprivileged-unchanged w (start p ∷ cs) x = absurd x
 unprivileged-unchanged w (enrol n type ∷ cs) x = absurd x
-unprivileged-unchanged w (close l ∷ cs) x = absurd x
+unprivileged-unchanged w (close l spare ∷ cs) x = absurd x
 unprivileged-unchanged w (finish y room ∷ cs) x = absurd x
 unprivileged-unchanged w (feed e ∷ cs) x =
     let a = feed-unchanged w e (x .0) in

@@ -4,6 +4,8 @@ pub mod Refusals
 pub mod Guard
 pub mod Promises
 pub mod Calls
+pub mod Steps
+pub mod StepsLaws
 pub mod Logins
 pub mod Demand3
 pub mod Lengths
@@ -12,4 +14,5 @@ pub mod Examples
 pub mod Demand3Example
 pub mod PasswordLaws
 pub mod OneHolder
+pub mod Demands
 pub mod Replies

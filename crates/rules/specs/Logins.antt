@@ -11,7 +11,6 @@ use lib.Seq.{getD-set-same, getD-set-other}
 use lib.Dec.{leb, ltb, eqb}
 use borrow.Author.Tests.{eqb-true, eqb-false, ne-eqb, ltb-false, leb-true, le-leb}
 use Rattle.frame.specs.Frame.{Outcome, frame, refused}
-use Rattle.frame.specs.Reading.{emptied}
 use Rattle.frame.specs.Writing.{minRoom}
 use Rattle.nodes.specs.Table as table
 use Rattle.sessions.specs.Sessions as sessions
@@ -138,10 +137,10 @@ call-logged l w (start p) four h = go (rules.startRefusal (w .table) p)
     go none = getD-replicate rules.lineCount l false false h
     go (some n) = refl
 call-logged l w (enrol n type) four h = refl
-call-logged l w (close k) four h = go (ltb k rules.lineCount) refl
+call-logged l w (close k spare) four h = go (ltb k rules.lineCount) refl
   where
     go : (b : Bool) → ltb k rules.lineCount ≡ b
-        → rules.isLoggedIn (rules.closeBy (rules.refuseIf (not b) rules.wrongLine none) (w .hub) (getD (w .states) k emptied) k .hub) l
+        → rules.isLoggedIn (rules.closeBy (rules.refuseIf (not b) rules.wrongLine none) (w .hub) (getD (w .states) k spare) k .hub) l
         ≡ cond (eqb k l) false (rules.isLoggedIn (w .hub) l)
     go true e = set-logged (w .hub .logins) k l false (omega arith)
     go false e = rw (ne-eqb k l (λ x. omega (arith, ltb-false k rules.lineCount e)))
@@ -170,9 +169,9 @@ call-four w (start p) four = go (rules.startRefusal (w .table) p)
     go none = refl
     go (some n) = four
 call-four w (enrol n type) four = four
-call-four w (close k) four = go (rules.closeRefusal k)
+call-four w (close k spare) four = go (rules.closeRefusal k)
   where
-    go : (o : Option ℕ) → length (rules.closeBy o (w .hub) (getD (w .states) k emptied) k .hub .logins) ≡ rules.lineCount
+    go : (o : Option ℕ) → length (rules.closeBy o (w .hub) (getD (w .states) k spare) k .hub .logins) ≡ rules.lineCount
     go none = length-set (w .hub .logins) k false ∙ four
     go (some n) = four
 call-four w (finish x room) four = go (ltb room minRoom) (sessions.finish (w .hub .slots) x)

@@ -7,7 +7,6 @@ use native.Mathlib.Omega.{arith}
 use lib.ListN.{length, getD, replicate}
 use lib.Dec.{eqb, ltb}
 use Rattle.frame.specs.Frame.{Outcome, frame, refused}
-use Rattle.frame.specs.Reading.{emptied}
 use Rattle.frame.specs.Writing.{minRoom}
 use Rattle.nodes.specs.Table as table
 use Rattle.sessions.specs.declared.Slot.{Slot}
@@ -82,9 +81,9 @@ module _ (n : ℕ) where
       go (some m) = p
       go none = free sessions.slotCount
   call-one w (enrol k type) p = p
-  call-one w (close l) p = go (closeRefusal l)
+  call-one w (close l spare) p = go (closeRefusal l)
     where
-      go : (o : Option ℕ) → OneAtMost (closeBy o (w .hub) (getD (w .states) l emptied) l .hub)
+      go : (o : Option ℕ) → OneAtMost (closeBy o (w .hub) (getD (w .states) l spare) l .hub)
       go (some m) = p
       go none = omega (arith, close-holders n (sessions.isOn l) (w .hub .slots))
   call-one w (finish x room) p = go (ltb room minRoom) (sessions.finish (w .hub .slots) x) (finish-holders n (w .hub .slots) x)

@@ -7,7 +7,7 @@ use Rattle.hub.proofs.notice.Statement.{statement}
 use Rattle.hub.proofs.notice.Tie as tie
 use Rattle.hub.proofs.notice.Reads as reads
 use Rattle.hub.proofs.notice.Lts as lts
-use Rattle.frame.proofs.write.Reads as write-reads
+use Rattle.writer.proofs.write.Reads as write-reads
 
 -- src/lib.rt:232:9
 cast-t6 : tie.Need-cast-t6

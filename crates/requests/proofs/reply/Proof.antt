@@ -5,7 +5,7 @@ use Rattle.requests.proofs.reply.Statement.{statement}
 use Rattle.requests.proofs.reply.Tie as tie
 use Rattle.requests.proofs.reply.Reads as reads
 use Rattle.requests.proofs.reply.Lts as lts
-use Rattle.frame.proofs.write.Reads as write-reads
+use Rattle.writer.proofs.write.Reads as write-reads
 
 -- src/lib.rt:160:11
 write-requires : tie.Need-write-requires

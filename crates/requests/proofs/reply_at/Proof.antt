@@ -4,7 +4,7 @@ use Rattle.requests.proofs.reply_at.Statement.{statement}
 use Rattle.requests.proofs.reply_at.Tie as tie
 use Rattle.requests.proofs.reply_at.Reads as reads
 use Rattle.requests.proofs.reply_at.Lts as lts
-use Rattle.frame.proofs.write_at.Reads as write-at-reads
+use Rattle.writer.proofs.write_at.Reads as write-at-reads
 
 -- src/lib.rt:172:11
 write-at-requires : tie.Need-write-at-requires

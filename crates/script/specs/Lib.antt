@@ -1,0 +1,9 @@
+pub mod Script
+pub mod Answers
+pub mod Code
+pub mod Joined
+pub mod ScriptVectors
+pub mod WordLaws
+pub mod ByteLaws
+pub mod CallLaws
+pub mod JoinedLaws

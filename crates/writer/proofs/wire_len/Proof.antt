@@ -1,0 +1,88 @@
+use Rattle.writer.proofs.Laws.{check-byte}
+use Prim.Native.Nat.{ℕ, _+_}
+use mathlib.Core.Path.{_≡_, ap, _∙_}
+use mathlib.Core.List.{List, [], _∷_}
+use native.Mathlib.Omega.{arith}
+use lib.ListN.{length}
+use lib.Bits.{bitXor}
+use Rattle.line.specs.Wire.{escape}
+use Rattle.frame.specs.Frame.{wire}
+use Rattle.frame.specs.Code.{header}
+use Rattle.frame.specs.WireLaws.{check, wire-length, wire-fits}
+use borrow.Author.Needs.{needs}
+use Rattle.writer.proofs.wire_len.Statement.{statement}
+use Rattle.writer.proofs.wire_len.Tie as tie
+
+-- the header, escaped
+head-len : (c : tie.After-escaped-len) → c .escaped-len .result ≡ length (escape (header (c .before .before .before .before .before .before .before .args .command) (length (c .before .before .before .before .before .before .before .args .payload .now))))
+head-len c = c .escaped-len .ensures ∙ ap (λ (l : List ℕ). length (escape l)) (c .before .before .before .before .before .head-of .ensures)
+
+-- the check byte
+checked : (c : tie.After-xor-all2) → bitXor (c .before .xor-all .result) (c .xor-all2 .result) ≡ check (c .before .before .before .before .before .args .command) (c .before .before .before .before .before .args .payload .now)
+checked c = check-byte _ _ _ _ _ (c .before .before .before .head-of .ensures) (c .before .xor-all .ensures) (c .xor-all2 .ensures)
+
+check-len : (c : tie.After-escaped-len3) → c .escaped-len3 .result ≡ length (escape (check (c .before .before .before .before .before .before .before .before .before .before .args .command) (c .before .before .before .before .before .before .before .before .before .before .args .payload .now) ∷ []))
+check-len c = c .escaped-len3 .ensures ∙ ap (λ (n : ℕ). length (escape (n ∷ []))) (checked (c .before .before .before .before .before))
+
+-- what the parts come to
+whole : (c : tie.After-escaped-len3)
+    → c .before .before .before .escaped-len .result + c .before .before .escaped-len2 .result + c .escaped-len3 .result + 2
+    ≡ length (wire (c .before .before .before .before .before .before .before .before .before .before .args .command) (c .before .before .before .before .before .before .before .before .before .before .args .payload .now))
+whole c = omega (arith, head-len (c .before .before .before), c .before .before .escaped-len2 .ensures, check-len c, wire-length (c .before .before .before .before .before .before .before .before .before .before .args .command) (c .before .before .before .before .before .before .before .before .before .before .args .payload .now))
+
+head-of-requires : tie.Need-head-of-requires
+head-of-requires c κs = search needs
+
+slice-aggregate-xor-all : tie.Need-slice-aggregate-xor-all
+slice-aggregate-xor-all c = search needs
+
+xor-all-requires : tie.Need-xor-all-requires
+xor-all-requires c κs = search needs
+
+xor-all-requires-2 : tie.Need-xor-all-requires-2
+xor-all-requires-2 c κs = search needs
+
+slice-aggregate-escaped-len : tie.Need-slice-aggregate-escaped-len
+slice-aggregate-escaped-len c = search needs
+
+escaped-len-requires : tie.Need-escaped-len-requires
+escaped-len-requires c κs = search needs
+
+escaped-len-requires-2 : tie.Need-escaped-len-requires-2
+escaped-len-requires-2 c κs = search needs
+
+add-result : tie.Need-add-result
+add-result c = omega (arith, head-len (c .before), c .escaped-len2 .ensures, wire-length (c .before .before .before .before .before .before .before .before .args .command) (c .before .before .before .before .before .before .before .before .args .payload .now), wire-fits (c .before .before .before .before .before .before .before .before .args .command) (c .before .before .before .before .before .before .before .before .args .payload .now) (c .before .before .before .before .before .before .before .before .pre))
+
+slice-aggregate-escaped-len-2 : tie.Need-slice-aggregate-escaped-len-2
+slice-aggregate-escaped-len-2 c = search needs
+
+escaped-len-requires-3 : tie.Need-escaped-len-requires-3
+escaped-len-requires-3 c κs = search needs
+
+add-result-2 : tie.Need-add-result-2
+add-result-2 c = omega (arith, whole c, wire-fits (c .before .before .before .before .before .before .before .before .before .before .args .command) (c .before .before .before .before .before .before .before .before .before .before .args .payload .now) (c .before .before .before .before .before .before .before .before .before .before .pre))
+
+add-result-3 : tie.Need-add-result-3
+add-result-3 c = omega (arith, whole c, wire-fits (c .before .before .before .before .before .before .before .before .before .before .args .command) (c .before .before .before .before .before .before .before .before .before .before .args .payload .now) (c .before .before .before .before .before .before .before .before .before .before .pre))
+
+returns : tie.Need-returns
+returns c = whole c
+
+pub wire-len-spec : {M : Type 1} → statement M
+wire-len-spec =
+    tie.close
+    (tie.spec
+    head-of-requires
+    slice-aggregate-xor-all
+    xor-all-requires
+    xor-all-requires-2
+    slice-aggregate-escaped-len
+    escaped-len-requires
+    escaped-len-requires-2
+    add-result
+    slice-aggregate-escaped-len-2
+    escaped-len-requires-3
+    add-result-2
+    add-result-3
+    returns)
