@@ -288,7 +288,7 @@ fn start(state: State, table: &mut [u8], word: &[u8], out: &mut [u8], at: usize)
     let before = state.hub;
     let readings = state.readings;
     let mut bytes = [0u8; DATA];
-    let n = least(script::decode(word, &mut bytes), DATA);
+    let n = least(spelling::decode(word, &mut bytes), DATA);
     let started = hub::start(before, table, &bytes[0..n]);
     let next = started.hub;
     let answer = started.answer;
@@ -364,7 +364,7 @@ fn feed(
     let readings = state.readings;
     let lent_reading = reading_of(readings, line);
     let mut bytes = [0u8; DATA];
-    let n = least(script::decode(word, &mut bytes), DATA);
+    let n = least(spelling::decode(word, &mut bytes), DATA);
     let mut space = [FILLER; ROOM];
     let room: &mut [u8] = &mut space;
     let fed = hub::feed(
@@ -395,7 +395,7 @@ fn feed(
 fn play(state: State, text: &[u8], table: &mut [u8], out: &mut [u8], at: usize) -> Played
     requires { ⌜ length (now table) ≡ 16384 ⌝ }
 {
-    match script::parse(text) {
+    match parser::parse(text) {
         Call::Start {
             at: place,
             len,

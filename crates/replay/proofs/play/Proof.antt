@@ -11,7 +11,7 @@ use Rattle.replay.proofs.finish.Reads as finish-reads
 use Rattle.replay.proofs.show.Reads as show-reads
 use Rattle.replay.proofs.start.Reads as start-reads
 use Rattle.report.proofs.bad_line.Reads as bad-line-reads
-use Rattle.script.proofs.parse.Reads as parse-reads
+use Rattle.parser.proofs.parse.Reads as parse-reads
 
 -- src/main.rt:367:11
 parse-requires : tie.Need-parse-requires
