@@ -1,5 +1,5 @@
 // Writes the command directory, a line for each entry: number, least and greatest data length.
-// It stops where the output is not taken. The lines are made by a proved function of `text`.
+// It stops where the output is not taken. The lines are made by a proved function of `lines`.
 use directory::Entry;
 use directory::Found;
 use libc::STDOUT_FILENO;
@@ -9,8 +9,8 @@ fn write_entry(entry: Entry) -> bool {
     let number = entry.number;
     let least = entry.least;
     let greatest = entry.greatest;
-    let mut out = [0u8; text::LINE];
-    let end = text::entry_line(&mut out, 0, number, least, greatest);
+    let mut out = [0u8; lines::LINE];
+    let end = lines::entry_line(&mut out, 0, number, least, greatest);
     io::write_all(STDOUT_FILENO, &out[0..end])
 }
 

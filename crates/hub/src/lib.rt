@@ -112,7 +112,7 @@ pub fn start(hub: Hub, table: &mut [u8], password: &[u8]) -> Started
             hub: hub,
         };
     }
-    nodes::empty(table);
+    table::empty(table);
     let next = fresh(password_of(password));
     Started {
         answer: CallAnswer::Done,
@@ -139,10 +139,10 @@ pub fn enrol(table: &mut [u8], node: u8, kind: u16) -> CallAnswer
     if nodes::NODES <= node as usize {
         return CallAnswer::Refused(Refusal::WrongNode);
     }
-    if nodes::in_use(table, node as usize) {
+    if table::in_use(table, node as usize) {
         return CallAnswer::Refused(Refusal::NodeInUse);
     }
-    nodes::enrol(table, node, kind);
+    table::enrol(table, node, kind);
     CallAnswer::Done
 }
 

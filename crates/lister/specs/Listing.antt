@@ -6,7 +6,7 @@ use lib.ListN.{length}
 use lib.Dec.{eqb}
 use Rattle.frame.specs.Frame.{Outcome, frame, refused}
 use Rattle.frame.specs.Reading.{END, emptied, outcomes, step}
-use Rattle.text.specs.Text.{frameLine, refusedLine, leftLine}
+use Rattle.answers.specs.Lines.{frameLine, refusedLine, leftLine}
 
 -- the line of an outcome
 abbrev pub outcomeLine : Outcome → List ℕ

@@ -23,7 +23,7 @@ use Rattle.frame.specs.Frame.{Outcome, refusal}
 use Rattle.frame.specs.Reading.{END, State, Scan, takenAs, also, outcomes, final, step, read}
 use Rattle.frame.specs.ReadingLaws.{outcomes-append, final-append, Tells, scan-tells, used-some}
 use Rattle.frame.specs.Answers.{told, Within, seen, answerOf, Answers}
-use Rattle.text.specs.Text.{refusedLine, LINE}
+use Rattle.answers.specs.Lines.{refusedLine, LINE}
 use Rattle.text.specs.Appended.{Memory, appended, Leaves}
 use Rattle.text.specs.AppendedLaws.{appended-whole}
 use Rattle.lister.specs.declared.Listed.{Listed}

@@ -9,7 +9,7 @@ use Rattle.frame.specs.declared.Outcome.{Outcome as Given}
 use Rattle.frame.specs.declared.Outcome.the-variants as given
 use Rattle.frame.specs.Frame.{refusal}
 use Rattle.frame.specs.Reading.{State, taken, outcomes, final, step}
-use Rattle.text.specs.Text.{frameLine, refusedLine, leftLine, LINE}
+use Rattle.answers.specs.Lines.{frameLine, refusedLine, leftLine, LINE}
 use Rattle.text.specs.Appended.{appended, Leaves}
 use Rattle.lister.specs.declared.Listed.{Listed}
 use Rattle.lister.specs.Listing.{lines, leftAfter, capped}

@@ -9,14 +9,14 @@ ghost use Rattle.frame.specs.Frame.{refusal};
 ghost use Rattle.frame.specs.Reading.{taken};
 ghost use Rattle.lister.specs.Listing.{leftAfter, capped};
 ghost use Rattle.lister.specs.Lists.{Lists, LastLine, listedOf, givenLine};
-ghost use Rattle.text.specs.Text.{LINE as textLine};
+ghost use Rattle.answers.specs.Lines.{LINE as textLine};
 use frame::Outcome;
 use frame::Refusal;
 use line::Place;
 use line::Reading;
 
 // No line is longer: with that much room a call goes on.
-pub const LINE: usize = text::LINE;
+pub const LINE: usize = lines::LINE;
 
 const END: u8 = 192;
 
@@ -57,7 +57,7 @@ pub fn list(reading: Reading, left: u64, wire: &[u8], out: &mut [u8]) -> Listed
 pub fn last_line(out: &mut [u8], left: u64) -> usize
     ensures { λ r. ⌜ LastLine left (now (out .entry)) (now (out .exit)) r ⌝ }
 {
-    text::left_line(out, 0, left)
+    lines::left_line(out, 0, left)
 }
 
 fn place_of(reading: Reading) -> Place
@@ -117,8 +117,8 @@ fn outcome_line(out: &mut [u8], at: usize, outcome: Outcome) -> usize
 {
     match outcome {
         Outcome::Nothing => at,
-        Outcome::Frame { command, len } => text::frame_line(out, at, command, len),
-        Outcome::Refused(cause) => text::refused_line(out, at, number_of(cause)),
+        Outcome::Frame { command, len } => lines::frame_line(out, at, command, len),
+        Outcome::Refused(cause) => lines::refused_line(out, at, number_of(cause)),
     }
 }
 

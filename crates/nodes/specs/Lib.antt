@@ -1,4 +1,9 @@
 pub mod Table
 pub mod Answers
+pub mod Overwriting
 pub mod TableLaws
+pub mod StoreLaws
+pub mod FieldLaws
+pub mod OverwritingLaws
+pub mod RemovalLaws
 pub mod TableVectors

@@ -55,6 +55,10 @@ fieldOf t n f = take (f .size) (drop (n * recordSize + f .at) t)
 abbrev pub withField : List ℕ → ℕ → Field → List ℕ → List ℕ
 withField t n f vs = sets t (n * recordSize + f .at) (take (f .size) vs)
 
+-- record n
+abbrev pub recordOf : List ℕ → ℕ → List ℕ
+recordOf t n = take recordSize (drop (n * recordSize) t)
+
 -- which node numbers there are
 abbrev pub isNode : ℕ → Bool
 isNode n = ltb n nodeCount

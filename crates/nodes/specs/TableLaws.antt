@@ -29,7 +29,7 @@ unfolding setField
 setField-length f t n vs = go (inUse t n)
   where
     go : (b : Bool) → length (cond {A = Result} b (record { status = 0; table = withField t n f vs }) (record { status = 2; table = t }) .table) ≡ length t
-    go true = length-sets t (n * recordSize + f .at) (take (f .size) vs)
+    go true = simp length-sets
     go false = refl
 
 pub setVariation-length : (t : List ℕ) (n v : ℕ) → length (setVariation t n v .table) ≡ length t

@@ -4,7 +4,7 @@ use mathlib.Core.Path.{_≡_, refl}
 use mathlib.Core.List.{List, [], _∷_, _++_, map}
 use mathlib.Core.Bool.{true, false}
 use lib.ListN.{replicate}
-use Rattle.nodes.specs.Table.{inUse, setField, setName, setOrderAndPlacement, setVariation, information, bit, removeOne, removeBelow, remove, enrolledRecord, enrolled}
+use Rattle.nodes.specs.Table.{inUse, setField, setName, setOrderAndPlacement, setVariation, information, bit, removeOne, removeBelow, remove, emptied, enrolledRecord, enrolled}
 
 -- node 1 with its name's byte, order, placement and variation
 unfoldable with : ℕ → ℕ → ℕ → ℕ → List ℕ
@@ -36,10 +36,14 @@ bits : bit (2 ∷ 0 ∷ []) 1 ∷ bit (128 ∷ 0 ∷ []) 7 ∷ bit (0 ∷ 1 ∷ 
 unfolding bit
 bits = refl
 
--- node 1 is removed, and node 0 ignored
-removed : remove (3 ∷ []) (with 7 5 9 4) ∷ remove (1 ∷ []) (with 7 5 9 4) ∷ [] ≡ replicate 216 0 ∷ with 7 5 9 4 ∷ []
+-- node 1 is removed, and node 0 ignored, whatever its record holds
+removed : remove (3 ∷ []) (with 7 5 9 4) ∷ remove (1 ∷ []) (with 7 5 9 4) ∷ remove (1 ∷ []) (replicate 216 9) ∷ [] ≡ replicate 216 0 ∷ with 7 5 9 4 ∷ replicate 216 9 ∷ []
 unfolding with removeBelow removeOne bit inUse
 removed = refl
+
+-- virgin state leaves no byte
+zeroed : emptied (replicate 216 9) ≡ replicate 216 0
+zeroed = refl
 
 -- type high byte first, other fields zero
 enrols : enrolled (replicate 216 9) 1 0x0102 ≡ replicate 72 9 ++ (1 ∷ 0x01 ∷ 0x02 ∷ []) ++ replicate 69 0 ++ replicate 72 9

@@ -267,18 +267,18 @@ fn show_reading(reading: Reading, k: u8, out: &mut [u8], at: usize) -> usize {
     shows::reading_line(out, at, k, mode_of(mode), &bytes[0..n])
 }
 
-fn mode_of(mode: Mode) -> shows::Mode {
+fn mode_of(mode: Mode) -> answers::Mode {
     match mode {
-        Mode::Plain => shows::Mode::Plain,
-        Mode::Escaped => shows::Mode::Escaped,
+        Mode::Plain => answers::Mode::Plain,
+        Mode::Escaped => answers::Mode::Escaped,
         Mode::Skipping(fault) => skip_of(fault),
     }
 }
 
-fn skip_of(fault: Fault) -> shows::Mode {
+fn skip_of(fault: Fault) -> answers::Mode {
     match fault {
-        Fault::WrongEscape => shows::Mode::Skip1,
-        Fault::TooLong => shows::Mode::Skip2,
+        Fault::WrongEscape => answers::Mode::Skip1,
+        Fault::TooLong => answers::Mode::Skip2,
     }
 }
 

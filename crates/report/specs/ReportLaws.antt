@@ -9,7 +9,7 @@ use lib.ListN.{length, drop, getD, drop-of-length-le}
 use lib.Seq.{drop-cons}
 use borrow.Author.Tests.{eq-eqb, ne-eqb}
 use Rattle.text.specs.Text.{ascii}
-use Rattle.report.specs.Report.{lineEnd, hasOther}
+use Rattle.answers.specs.Report.{lineEnd, hasOther}
 
 -- ---- one place on, found, and not found
 

@@ -1,11 +1,11 @@
 // What the replayed calls answer: lines of text, appended to lent memory at a place.
-// A line is written whole or not at all, and is the definition's to the byte: specs/Report.antt.
-// It stands on the text's parts of a line.
+// A line is written whole or not at all, and is the definition's to the byte: specs/Report.antt of `answers`.
+// It stands on the text's pieces of a line, and on the line that tells bytes.
 ghost use mathlib.Core.Path.{_≡_};
 ghost use mathlib.Core.List.{_++_};
-ghost use Rattle.text.specs.Bytes.{bytesWord};
+ghost use Rattle.answers.specs.Bytes.{bytesWord};
 ghost use Rattle.text.specs.Appended.{appended, Leaves};
-ghost use Rattle.report.specs.Report.{badLine, doneLine, refusedLine, finishedLine, noneLine, frameLine, packetLine, lineEnd, hasSpilled};
+ghost use Rattle.answers.specs.Report.{badLine, doneLine, refusedLine, finishedLine, noneLine, frameLine, packetLine, lineEnd, hasSpilled};
 
 // No line is longer in front of its bytes.
 const HEAD: usize = 80;
@@ -119,9 +119,9 @@ fn reply_line(out: &mut [u8], at: usize, head: &[u8], reply: &[u8], spilled: boo
     ensures { λ r. ⌜ Leaves (appended (now (out .entry)) at (now (head .entry) ++ bytesWord (now (reply .entry)) ++ lineEnd spilled)) (now (out .exit)) r ⌝ }
 {
     if spilled {
-        return text::bytes_line(out, at, head, reply, b" spilled\n");
+        return hexes::bytes_line(out, at, head, reply, b" spilled\n");
     }
-    text::bytes_line(out, at, head, reply, b"\n")
+    hexes::bytes_line(out, at, head, reply, b"\n")
 }
 
 fn line_end(out: &mut [u8], at: usize, spilled: bool) -> usize

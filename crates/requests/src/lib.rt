@@ -163,7 +163,7 @@ fn get_node(hub: Hub, table: &[u8], room: &mut [u8], node: u8) -> Served
     requires { ⌜ (length (now table) ≡ tableSize) × (minRoom ≤ length (now room)) ⌝ }
     ensures { λ r. ⌜ Answered hub (getNode hub (now (table .entry)) node .reply) (now (room .entry)) r (now (room .exit)) ⌝ }
 {
-    let informed = nodes::information(table, node);
+    let informed = fields::information(table, node);
     if !informed.known {
         let refused = confirm(room, 0x0201, 2, node);
         return Served {
@@ -182,7 +182,7 @@ fn set_variation(hub: Hub, table: &mut [u8], room: &mut [u8], payload: &[u8]) ->
     ensures { λ r. ⌜ Serves (nodeReply hub 0x0207 (getD (now (payload .entry)) 0 0) (setVariation (now (table .entry)) (getD (now (payload .entry)) 0 0) (getD (now (payload .entry)) 1 0))) (now (room .entry)) r (now (table .exit)) (now (room .exit)) ⌝ }
 {
     let node = payload[0];
-    let status = nodes::set_variation(table, node, payload[1]);
+    let status = fields::set_variation(table, node, payload[1]);
     let n = confirm(room, 0x0207, status, node);
     Served { hub: hub, len: n }
 }
@@ -192,7 +192,7 @@ fn set_name(hub: Hub, table: &mut [u8], room: &mut [u8], payload: &[u8]) -> Serv
     ensures { λ r. ⌜ Serves (nodeReply hub 0x0209 (getD (now (payload .entry)) 0 0) (setName (now (table .entry)) (getD (now (payload .entry)) 0 0) (drop 1 (now (payload .entry))))) (now (room .entry)) r (now (table .exit)) (now (room .exit)) ⌝ }
 {
     let node = payload[0];
-    let status = nodes::set_name(table, node, &payload[1..]);
+    let status = fields::set_name(table, node, &payload[1..]);
     let n = confirm(room, 0x0209, status, node);
     Served { hub: hub, len: n }
 }
@@ -202,7 +202,7 @@ fn set_order_and_placement(hub: Hub, table: &mut [u8], room: &mut [u8], payload:
     ensures { λ r. ⌜ Serves (nodeReply hub 0x020E (getD (now (payload .entry)) 0 0) (setOrderAndPlacement (now (table .entry)) (getD (now (payload .entry)) 0 0) (drop 1 (now (payload .entry))))) (now (room .entry)) r (now (table .exit)) (now (room .exit)) ⌝ }
 {
     let node = payload[0];
-    let status = nodes::set_order_and_placement(table, node, &payload[1..]);
+    let status = fields::set_order_and_placement(table, node, &payload[1..]);
     let n = confirm(room, 0x020E, status, node);
     Served { hub: hub, len: n }
 }
@@ -213,7 +213,7 @@ fn remove_nodes(hub: Hub, table: &mut [u8], room: &mut [u8], bits: &[u8]) -> Ser
 {
     let slots = hub.slots;
     let left = slots::close_removed(slots, table, bits);
-    nodes::remove(table, bits);
+    table::remove(table, bits);
     let scene_deleted = [0];
     let n = reply(room, 0x0107, &scene_deleted);
     let next = with_slots(hub, left);
@@ -224,7 +224,7 @@ fn virgin_state(hub: Hub, table: &mut [u8], room: &mut [u8]) -> Served
     requires { ⌜ minRoom ≤ length (now room) ⌝ }
     ensures { λ r. ⌜ Serves (virginState hub (now (table .entry))) (now (room .entry)) r (now (table .exit)) (now (room .exit)) ⌝ }
 {
-    nodes::empty(table);
+    table::empty(table);
     let nothing: [u8; 0] = [];
     let n = reply(room, 0x0109, &nothing);
     let slots = hub.slots;

@@ -5,7 +5,7 @@ use mathlib.Core.List.{List, [], _∷_, _++_, map}
 use mathlib.Core.Option.{none, some}
 use lib.ListN.{length, replicate}
 use Rattle.frame.specs.Frame.{frame, refused, wire, escape, framed, body}
-use Rattle.frame.specs.Reading.{emptied}
+use Rattle.frame.specs.Reading.{plain, emptied}
 use Rattle.frame.specs.Xor as xor
 use Rattle.directory.specs.Directory.{directory}
 use Rattle.directory.specs.Lookup as lookup
@@ -93,6 +93,10 @@ removed = refl
 closed : rules.close moving emptied 2 .hub ∷ rules.close moving emptied 1 .hub ∷ rules.close moving emptied 4 .hub ∷ [] ≡ firstHub ∷ moving ∷ moving ∷ []
 unfolding windows loggedIn modeSendOf moving serve request enter same rules.modeSend sessions.modeSend sessions.isLegal sessions.targetsLegal sessions.marked search.any search.first table.inUse lookup.verdict lookup.verdictOf lookup.find directory
 closed = refl
+
+-- its reading state is emptied; there is no line 4
+closed-state : rules.close firstHub (plain (0 ∷ [])) 2 .state ∷ rules.close firstHub (plain (0 ∷ [])) 4 .state ∷ [] ≡ emptied ∷ plain (0 ∷ []) ∷ []
+closed-state = refl
 
 -- the host calls' refusals by the paper's numbers, where several apply the first
 refusals : rules.start firstHub [] [] .refusal ∷ rules.start firstHub windows [] .refusal ∷ rules.start firstHub windows (replicate 32 1) .refusal

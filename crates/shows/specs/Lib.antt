@@ -1,3 +1,1 @@
-pub mod Shows
 pub mod ShowsLaws
-pub mod ShowsVectors

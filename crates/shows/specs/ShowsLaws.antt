@@ -6,9 +6,9 @@ use native.Mathlib.Omega.{arith}
 use lib.ListN.{length, length-append, getD}
 use Rattle.text.specs.Text.{ascii}
 use Rattle.text.specs.DecimalLaws.{decimal-below}
-use Rattle.shows.specs.Shows.{nodeCount, nodeWord, nodesBelow, modeWord}
-use Rattle.shows.specs.declared.Mode.{Mode}
-use Rattle.shows.specs.declared.Mode.the-variants as mode
+use Rattle.answers.specs.Shows.{nodeCount, nodeWord, nodesBelow, modeWord}
+use Rattle.answers.specs.declared.Mode.{Mode}
+use Rattle.answers.specs.declared.Mode.the-variants as mode
 
 pub modeWord-short : (m : Mode) → length (modeWord m) ≤ 7
 unfolding modeWord ascii

@@ -1,12 +1,13 @@
 // The state as `show` writes it: lines of text, appended to lent memory at a place.
-// A line is written whole or not at all, and is the definition's to the byte: specs/Shows.antt.
-// It stands on the text's parts of a line.
+// A line is written whole or not at all, and is the definition's to the byte: specs/Shows.antt of `answers`.
+// It stands on the text's pieces of a line, and on the line that tells bytes.
 ghost use Prim.Native.Nat.{_+_, _*_, _≤_, _<_};
 ghost use mathlib.Core.Path.{_≡_};
 ghost use lib.ListN.{length};
 ghost use Rattle.store.specs.Wrote.{Wrote};
 ghost use Rattle.text.specs.Appended.{appended, Leaves};
-ghost use Rattle.shows.specs.Shows.{loginLine, slotLine, nodeLine, readingLine, endLine, flag, nodeCount, nodeWord, nodesBelow, modeWord};
+ghost use Rattle.answers.specs.Shows.{loginLine, slotLine, nodeLine, readingLine, endLine, flag, nodeCount, nodeWord, nodesBelow, modeWord};
+use answers::Mode;
 
 pub const NODES: usize = 200;
 
@@ -14,14 +15,6 @@ pub const NODES: usize = 200;
 const HEAD: usize = 40;
 
 const SLOT: usize = 1024;
-
-// How a line's reading stands: between whole bytes, right after an ESC, or skipping after refusal 1 or 2.
-pub enum Mode {
-    Plain,
-    Escaped,
-    Skip1,
-    Skip2,
-}
 
 // "login ABCD": a digit for each line, 1 where it is logged in.
 pub fn login_line(out: &mut [u8], at: usize, logins: [bool; 4]) -> usize
@@ -74,7 +67,7 @@ pub fn node_line(out: &mut [u8], at: usize, node: u8, fields: &[u8]) -> usize
     let digits = text::append(&mut head, 0, b"node ");
     let last = text::append_decimal(&mut head, digits, node as u64);
     let end = text::append(&mut head, last, b" ");
-    text::bytes_line(out, at, &head[0..end], fields, b"\n")
+    hexes::bytes_line(out, at, &head[0..end], fields, b"\n")
 }
 
 // "line L M BYTES": how a line's reading stands, and the bytes held.
@@ -87,7 +80,7 @@ pub fn reading_line(out: &mut [u8], at: usize, line: u8, mode: Mode, held: &[u8]
     let word = text::append(&mut head, gap, b" ");
     let last = mode_word(&mut head, word, mode);
     let end = text::append(&mut head, last, b" ");
-    text::bytes_line(out, at, &head[0..end], held, b"\n")
+    hexes::bytes_line(out, at, &head[0..end], held, b"\n")
 }
 
 // "end"

@@ -120,7 +120,7 @@ fn found_removed(found: bool, slot: Slot, table: &[u8], bits: &[u8], k: usize) -
         return true;
     }
     if holds(slot, k) {
-        return nodes::is_removed(table, bits, k);
+        return table::is_removed(table, bits, k);
     }
     false
 }

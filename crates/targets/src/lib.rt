@@ -77,7 +77,7 @@ fn is_target(table: &[u8], seen: &[u8], index: u8) -> bool
     if sessions::TARGETS <= node {
         return false;
     }
-    if !nodes::in_use(table, node) {
+    if !table::in_use(table, node) {
         return false;
     }
     !is_member(seen, index)

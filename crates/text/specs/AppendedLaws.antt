@@ -10,7 +10,7 @@ use lib.Seq.{sets, length-sets}
 use lib.Dec.{leb}
 use borrow.Author.Tests.{leb-true, le-leb, lt-leb}
 use Rattle.store.specs.Wrote.{Wrote}
-use Rattle.store.specs.WroteLaws.{sets-append}
+use Rattle.store.specs.WroteLaws.{sets-append, then, kept}
 use Rattle.text.specs.Appended.{Memory, appended, Leaves}
 
 pub appended-whole : (l : List ℕ) (at : ℕ) (text : List ℕ) → at + length text ≤ length l
@@ -41,6 +41,17 @@ pub leaves-wrote : {l m : List ℕ} {at next : ℕ} {text : List ℕ} → at + l
 leaves-wrote {l} {m} {at} {next} {text} h x =
     let y = rw (appended-whole l at text h) at x in
     record { content = y .bytes; place = y .place }
+
+-- texts appended one behind the other are stored, where they fit together
+pub fitting-first : {l m : List ℕ} {at a : ℕ} {xs : List ℕ} → Leaves (appended l at xs) m a → at + length xs ≤ length l → Wrote l at xs m a
+fitting-first x h = leaves-wrote h x
+
+pub fitting-then : {l m n : List ℕ} {at a e : ℕ} {xs : List ℕ} (ys : List ℕ) → (at + length xs ≤ length l → Wrote l at xs m a) → Leaves (appended m a ys) n e
+    → at + length (xs ++ ys) ≤ length l → Wrote l at (xs ++ ys) n e
+fitting-then {l} {m} {n} {at} {a} {e} {xs} ys front x h =
+    let long = length-append xs ys in
+    let w = front (omega arith) in
+    then w (leaves-wrote (omega (arith, w .place, kept w)) x)
 
 pub leaves-none : (l : List ℕ) (at : ℕ) (text : List ℕ) → length l < at + length text → Leaves (appended l at text) l at
 leaves-none l at text h = rw (appended-none l at text h) (record { bytes = refl; place = refl })

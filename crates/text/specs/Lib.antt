@@ -1,9 +1,6 @@
 pub mod Text
-pub mod Bytes
 pub mod Appended
 pub mod DecimalLaws
-pub mod BytesLaws
-pub mod TextLaws
 pub mod TextVectors
 pub mod AppendedLaws
 pub mod Built

@@ -1,4 +1,4 @@
--- The programs' output as bytes: numbers, and the lines that they stand in.
+-- The pieces of the programs' lines as bytes: words and numbers.
 use Prim.Native.Nat.{ℕ, zero, suc, _+_, _/_, _%_}
 use Prim.Native.Char.{code}
 use Prim.Native.String as Characters
@@ -27,23 +27,3 @@ decimal n = decimalIn n n
 -- the four hexadecimal digits of a number below 65536
 abbrev pub hex4 : ℕ → List ℕ
 hex4 n = digit (n / 4096 % 16) ∷ digit (n / 256 % 16) ∷ digit (n / 16 % 16) ∷ digit (n % 16) ∷ []
-
--- a frame: its command, and how many data bytes it has
-unfoldable pub frameLine : ℕ → ℕ → List ℕ
-frameLine command len = ascii "frame " ++ hex4 command ++ ascii " data " ++ decimal len ++ ascii "\n"
-
--- a refusal: its number
-unfoldable pub refusedLine : ℕ → List ℕ
-refusedLine number = ascii "refused " ++ decimal number ++ ascii "\n"
-
--- the wire bytes since the last END
-unfoldable pub leftLine : ℕ → List ℕ
-leftLine left = ascii "left " ++ decimal left ++ ascii "\n"
-
--- a command's entry: the least and the greatest length of its data
-unfoldable pub entryLine : ℕ → ℕ → ℕ → List ℕ
-entryLine command least greatest = hex4 command ++ ascii " " ++ decimal least ++ ascii " " ++ decimal greatest ++ ascii "\n"
-
--- no line of a number below 2 ^ 64 is longer
-abbrev pub LINE : ℕ
-LINE = 40

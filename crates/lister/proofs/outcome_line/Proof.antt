@@ -2,8 +2,8 @@ use Prim.Native.Nat.{_≤_}
 use native.Mathlib.Omega.{arith}
 use lib.ListN.{length}
 use Rattle.store.specs.WroteLaws.{none}
-use Rattle.text.specs.Text.{frameLine, refusedLine, LINE}
-use Rattle.text.specs.TextLaws.{frameLine-short, refusedLine-short}
+use Rattle.answers.specs.Lines.{frameLine, refusedLine, LINE}
+use Rattle.answers.specs.LinesLaws.{frameLine-short, refusedLine-short}
 use Rattle.lister.specs.ListingLaws.{leaves-wrote}
 use borrow.Author.Needs.{needs}
 use Rattle.lister.proofs.outcome_line.Statement.{statement}

@@ -1,6 +1,6 @@
 use borrow.Author.Needs.{needs}
 use Rattle.text.specs.Text.{ascii}
-use Rattle.report.specs.Report.{badLine}
+use Rattle.answers.specs.Report.{badLine}
 use Rattle.report.proofs.bad_line.Statement.{statement}
 use Rattle.report.proofs.bad_line.Tie as tie
 

@@ -1,6 +1,6 @@
 use borrow.Author.Needs.{needs}
 use Rattle.text.specs.Text.{ascii}
-use Rattle.report.specs.Report.{doneLine}
+use Rattle.answers.specs.Report.{doneLine}
 use Rattle.report.proofs.done_line.Statement.{statement}
 use Rattle.report.proofs.done_line.Tie as tie
 

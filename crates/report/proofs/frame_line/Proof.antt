@@ -6,7 +6,7 @@ use borrow.Author.Needs.{needs}
 use Rattle.text.specs.Text.{ascii, decimal, hex4}
 use Rattle.text.specs.Built.{Built}
 use Rattle.text.specs.BuiltLaws.{built-none, built-word, built-number, built-all, built-within, built-part}
-use Rattle.report.specs.Report.{headSize, frameLine}
+use Rattle.answers.specs.Report.{headSize, frameLine}
 use Rattle.report.proofs.frame_line.Statement.{statement}
 use Rattle.report.proofs.frame_line.Tie as tie
 

@@ -6,7 +6,7 @@ use borrow.Author.Needs.{needs}
 use Rattle.text.specs.Text.{ascii, decimal}
 use Rattle.text.specs.Built.{Built}
 use Rattle.text.specs.BuiltLaws.{built-none, built-word, built-number, built-all, built-within, built-part}
-use Rattle.report.specs.Report.{headSize, packetLine}
+use Rattle.answers.specs.Report.{headSize, packetLine}
 use Rattle.report.proofs.packet_line.Statement.{statement}
 use Rattle.report.proofs.packet_line.Tie as tie
 

@@ -6,7 +6,7 @@ use borrow.Author.Needs.{needs}
 use Rattle.text.specs.Text.{ascii, decimal}
 use Rattle.text.specs.Built.{Built}
 use Rattle.text.specs.BuiltLaws.{built-none, built-more, built-word, built-number, built-all, built-within, built-part}
-use Rattle.report.specs.Report.{headSize, refusedLine, lineEnd}
+use Rattle.answers.specs.Report.{headSize, refusedLine, lineEnd}
 use Rattle.report.specs.ReportLaws.{lineEnd-short}
 use Rattle.report.proofs.refused_line.Statement.{statement}
 use Rattle.report.proofs.refused_line.Tie as tie

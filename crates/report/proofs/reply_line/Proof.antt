@@ -1,6 +1,6 @@
 use borrow.Author.Needs.{needs}
 use Rattle.text.specs.Text.{ascii}
-use Rattle.report.specs.Report.{lineEnd}
+use Rattle.answers.specs.Report.{lineEnd}
 use Rattle.report.proofs.reply_line.Statement.{statement}
 use Rattle.report.proofs.reply_line.Tie as tie
 

@@ -2,7 +2,7 @@ use Prim.Native.Nat.{_-_}
 use mathlib.Core.Path.{_≡_, refl, sym, _∙_}
 use native.Mathlib.Omega.{arith}
 use lib.ListN.{length, drop}
-use Rattle.report.specs.Report.{hasOther, hasSpilled}
+use Rattle.answers.specs.Report.{hasOther, hasSpilled}
 use Rattle.report.specs.ReportLaws.{other-on, other-found, other-end}
 use Rattle.report.proofs.spilled.Statement.{statement}
 use Rattle.report.proofs.spilled.Tie as tie

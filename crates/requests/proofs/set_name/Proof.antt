@@ -5,7 +5,7 @@ use Rattle.requests.proofs.set_name.Statement.{statement}
 use Rattle.requests.proofs.set_name.Tie as tie
 use Rattle.requests.proofs.set_name.Reads as reads
 use Rattle.requests.proofs.set_name.Lts as lts
-use Rattle.nodes.proofs.set_name.Reads as set-name-reads
+use Rattle.fields.proofs.set_name.Reads as set-name-reads
 use Rattle.requests.proofs.confirm.Reads as confirm-reads
 
 -- src/lib.rt:109:16

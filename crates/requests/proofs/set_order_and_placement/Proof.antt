@@ -5,7 +5,7 @@ use Rattle.requests.proofs.set_order_and_placement.Statement.{statement
 use Rattle.requests.proofs.set_order_and_placement.Tie as tie
 use Rattle.requests.proofs.set_order_and_placement.Reads as reads
 use Rattle.requests.proofs.set_order_and_placement.Lts as lts
-use Rattle.nodes.proofs.set_order_and_placement.Reads as set-order-and-placement-reads
+use Rattle.fields.proofs.set_order_and_placement.Reads as set-order-and-placement-reads
 use Rattle.requests.proofs.confirm.Reads as confirm-reads
 
 -- src/lib.rt:119:16

@@ -4,7 +4,7 @@ use Rattle.requests.proofs.set_variation.Statement.{statement}
 use Rattle.requests.proofs.set_variation.Tie as tie
 use Rattle.requests.proofs.set_variation.Reads as reads
 use Rattle.requests.proofs.set_variation.Lts as lts
-use Rattle.nodes.proofs.set_variation.Reads as set-variation-reads
+use Rattle.fields.proofs.set_variation.Reads as set-variation-reads
 use Rattle.requests.proofs.confirm.Reads as confirm-reads
 
 -- src/lib.rt:99:16

@@ -1,6 +1,6 @@
 use borrow.Author.Needs.{needs}
 use Rattle.text.specs.Text.{ascii}
-use Rattle.shows.specs.Shows.{endLine}
+use Rattle.answers.specs.Shows.{endLine}
 use Rattle.shows.proofs.end_line.Statement.{statement}
 use Rattle.shows.proofs.end_line.Tie as tie
 

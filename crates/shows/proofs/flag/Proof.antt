@@ -1,4 +1,4 @@
-use Rattle.shows.specs.Shows.{flag}
+use Rattle.answers.specs.Shows.{flag}
 use Rattle.shows.proofs.flag.Statement.{statement}
 use Rattle.shows.proofs.flag.Tie as tie
 

@@ -1,6 +1,6 @@
 use borrow.Author.Needs.{needs}
 use Rattle.text.specs.Text.{ascii}
-use Rattle.shows.specs.Shows.{loginLine}
+use Rattle.answers.specs.Shows.{loginLine}
 use Rattle.shows.proofs.login_line.Statement.{statement}
 use Rattle.shows.proofs.login_line.Tie as tie
 

@@ -1,6 +1,6 @@
 use borrow.Author.Needs.{needs}
 use Rattle.text.specs.Text.{ascii}
-use Rattle.shows.specs.Shows.{modeWord}
+use Rattle.answers.specs.Shows.{modeWord}
 use Rattle.shows.proofs.mode_word.Statement.{statement}
 use Rattle.shows.proofs.mode_word.Tie as tie
 

@@ -5,7 +5,7 @@ use Rattle.store.specs.WroteLaws.{none, then, kept}
 use Rattle.text.specs.Text.{ascii}
 use Rattle.text.specs.DecimalLaws.{decimal-below}
 use Rattle.text.specs.AppendedLaws.{leaves-wrote}
-use Rattle.shows.specs.Shows.{nodeWord}
+use Rattle.answers.specs.Shows.{nodeWord}
 use Rattle.shows.proofs.node_word.Statement.{statement}
 use Rattle.shows.proofs.node_word.Tie as tie
 

@@ -4,7 +4,7 @@ use native.Mathlib.Numerals.{add-one}
 use native.Mathlib.Omega.{arith}
 use Rattle.store.specs.Wrote.{Wrote}
 use Rattle.store.specs.WroteLaws.{none, then, kept}
-use Rattle.shows.specs.Shows.{nodeCount, nodesBelow}
+use Rattle.answers.specs.Shows.{nodeCount, nodesBelow}
 use Rattle.shows.specs.ShowsLaws.{nodesBelow-short}
 use Rattle.shows.proofs.put_nodes.Statement.{statement}
 use Rattle.shows.proofs.put_nodes.Tie as tie

@@ -6,7 +6,7 @@ use borrow.Author.Needs.{needs}
 use Rattle.text.specs.Text.{ascii, decimal}
 use Rattle.text.specs.Built.{Built}
 use Rattle.text.specs.BuiltLaws.{built-none, built-more, built-word, built-number, built-all, built-within, built-part}
-use Rattle.shows.specs.Shows.{headSize, readingLine, modeWord}
+use Rattle.answers.specs.Shows.{headSize, readingLine, modeWord}
 use Rattle.shows.specs.ShowsLaws.{modeWord-short}
 use Rattle.shows.proofs.reading_line.Statement.{statement}
 use Rattle.shows.proofs.reading_line.Tie as tie

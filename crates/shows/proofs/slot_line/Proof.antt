@@ -6,7 +6,7 @@ use borrow.Author.Needs.{needs}
 use Rattle.text.specs.Text.{ascii, decimal, hex4}
 use Rattle.text.specs.Built.{Built}
 use Rattle.text.specs.BuiltLaws.{built-none, built-wrote, built-word, built-number, built-all, built-within, built-room, built-part}
-use Rattle.shows.specs.Shows.{slotSize, nodeCount, nodesBelow, slotLine}
+use Rattle.answers.specs.Shows.{slotSize, nodeCount, nodesBelow, slotLine}
 use Rattle.shows.specs.ShowsLaws.{nodesBelow-short}
 use Rattle.shows.proofs.slot_line.Statement.{statement}
 use Rattle.shows.proofs.slot_line.Tie as tie

@@ -33,7 +33,7 @@ loop-holds : tie.Need-loop-holds Inv-loop μ-loop
 loop-holds c = let h = decimal-some (c .before .args .number) in (omega arith, omega arith, refl, refl)
 
 digit-requires : tie.Need-digit-requires Inv-loop μ-loop
-digit-requires c κs = omega arith
+digit-requires c κs = search needs
 
 slice-write-out : tie.Need-slice-write-out Inv-loop μ-loop
 slice-write-out c = omega arith
@@ -50,10 +50,11 @@ loop-again c =
     let many = c .before .loop-test .taken in
     let more = length-more _ many in
     let some = decimal-some (l .rest / 10) in
-    (omega arith, omega arith, simp length-set (l .inv .2), rw (c .digit .ensures) (last-stored _ _ _ _ many (l .inv .0) ∙ l .inv .3))
+    let ones : l .rest % 10 % 16 ≡ l .rest % 10 = omega arith in
+    (omega arith, omega arith, simp length-set (l .inv .2), rw (c .digit .ensures, ones) (last-stored _ _ _ _ many (l .inv .0) ∙ l .inv .3))
 
 digit-requires-2 : tie.Need-digit-requires-2 Inv-loop μ-loop
-digit-requires-2 c κs = omega arith
+digit-requires-2 c κs = search needs
 
 slice-write-out-2 : tie.Need-slice-write-out-2 Inv-loop μ-loop
 slice-write-out-2 c = omega arith
@@ -66,7 +67,8 @@ returns c =
     let l = c .before .before .loop in
     let few = decimal-few _ (c .before .loop-test .left) in
     let e : l .place ≡ c .before .before .before .before .args .at = omega (arith, ap length few) in
-    record { content = rw (c .digit2 .ensures, e) (rw few at (l .inv .3)); place = omega arith }
+    let one : l .rest % 16 ≡ l .rest = omega arith in
+    record { content = rw (c .digit2 .ensures, one, e) (rw few at (l .inv .3)); place = omega arith }
 
 pub decimal-spec : {M : Type 1} → statement M
 decimal-spec =

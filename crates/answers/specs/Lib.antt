@@ -1,0 +1,9 @@
+pub mod Bytes
+pub mod Lines
+pub mod Report
+pub mod Shows
+pub mod LinesLaws
+pub mod BytesVectors
+pub mod LinesVectors
+pub mod ReportVectors
+pub mod ShowsVectors

@@ -1,0 +1,71 @@
+use native.Mathlib.Nat.{sub-zero}
+use Rattle.nodes.specs.TableLaws.{used-below}
+use Rattle.nodes.specs.Table.{setField}
+use Rattle.store.specs.WroteLaws.{take-min}
+use native.Mathlib.Omega.{arith}
+use borrow.Author.Tests.{not-true, not-false}
+use mathlib.Core.Path.{sym, _∙_, refl}
+use borrow.Author.Needs.{needs}
+use Rattle.fields.proofs.set_field.Statement.{statement}
+use Rattle.fields.proofs.set_field.Tie as tie
+use Rattle.fields.proofs.set_field.Reads as reads
+use Rattle.fields.proofs.set_field.Lts as lts
+use Rattle.table.proofs.in_use.Reads as in-use-reads
+use Rattle.fields.proofs.least.Reads as least-reads
+use Rattle.store.proofs.copy.Reads as copy-reads
+
+in-use-requires : tie.Need-in-use-requires
+in-use-requires c κs = search needs
+
+same-length : tie.Need-same-length
+same-length c = search needs
+
+returns : tie.Need-returns
+unfolding setField
+returns c = simp (sym (c .before .in-use .ensures) ∙ not-true _ (c .if1 .taken)) (record { status = refl; table = refl })
+
+least-requires : tie.Need-least-requires
+least-requires c κs = search needs
+
+mul-copy : tie.Need-mul-copy
+mul-copy c = let h = used-below _ _ (sym (c .before .before .before .in-use .ensures) ∙ not-false _ (c .before .before .if1 .left)) in omega arith
+
+add-copy : tie.Need-add-copy
+add-copy c = let h = used-below _ _ (sym (c .before .before .before .in-use .ensures) ∙ not-false _ (c .before .before .if1 .left)) in omega arith
+
+sub-copy : tie.Need-sub-copy
+sub-copy c = search needs
+
+part-copy-start : tie.Need-part-copy-start
+part-copy-start c = search needs
+
+part-copy-end : tie.Need-part-copy-end
+part-copy-end c = search needs
+
+copy-requires : tie.Need-copy-requires
+copy-requires c κs = search needs
+
+same-length-2 : tie.Need-same-length-2
+same-length-2 c = search needs
+
+returns-2 : tie.Need-returns-2
+unfolding setField
+returns-2 c = simp (sym (c .before .before .before .before .before .before .before .in-use .ensures) ∙ not-false _ (c .before .before .before .before .before .before .if1 .left))
+    (record { status = refl; table = c .before .before .copy .ensures ∙ rw (sub-zero, c .before .before .before .before .before .least .ensures, take-min) })
+
+pub set-field-spec : {M : Type 1} → statement M
+set-field-spec =
+    tie.close
+    (tie.spec
+    in-use-requires
+    same-length
+    returns
+    least-requires
+    mul-copy
+    add-copy
+    sub-copy
+    part-copy-start
+    part-copy-end
+    copy-requires
+    same-length-2
+    returns-2)

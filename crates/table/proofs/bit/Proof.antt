@@ -1,0 +1,23 @@
+use Rattle.nodes.specs.Table.{bit}
+use borrow.Author.Needs.{needs}
+use Rattle.table.proofs.bit.Statement.{statement}
+use Rattle.table.proofs.bit.Tie as tie
+use Rattle.table.proofs.bit.Reads as reads
+use Rattle.table.proofs.bit.Lts as lts
+use Rattle.table.proofs.byte_at.Reads as byte-at-reads
+
+byte-at-requires : tie.Need-byte-at-requires
+byte-at-requires c κs = search needs
+
+cast-shift : tie.Need-cast-shift
+cast-shift c = search needs
+
+shr-result : tie.Need-shr-result
+shr-result c = search needs
+
+returns : tie.Need-returns
+unfolding bit
+returns c = rw (c .byte-at .ensures)
+
+pub bit-spec : {M : Type 1} → statement M
+bit-spec = tie.close (tie.spec byte-at-requires cast-shift shr-result returns)

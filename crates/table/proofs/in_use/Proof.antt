@@ -1,0 +1,26 @@
+use native.Mathlib.Nat.{add-zero}
+use Rattle.nodes.specs.Table.{inUse}
+use borrow.Author.Tests.{lt-ltb, le-ltb}
+use borrow.Author.Needs.{needs}
+use Rattle.table.proofs.in_use.Statement.{statement}
+use Rattle.table.proofs.in_use.Tie as tie
+use Rattle.table.proofs.in_use.Reads as reads
+use Rattle.table.proofs.in_use.Lts as lts
+use Rattle.table.proofs.byte_at.Reads as byte-at-reads
+
+returns : tie.Need-returns
+unfolding inUse
+returns c = simp (le-ltb _ _ (c .if1 .taken))
+
+mul-byte-at : tie.Need-mul-byte-at
+mul-byte-at c = search needs
+
+byte-at-requires : tie.Need-byte-at-requires
+byte-at-requires c κs = search needs
+
+returns-2 : tie.Need-returns-2
+unfolding inUse
+returns-2 c = simp (lt-ltb _ _ (c .before .if1 .left), add-zero, c .byte-at .ensures)
+
+pub in-use-spec : {M : Type 1} → statement M
+in-use-spec = tie.close (tie.spec returns mul-byte-at byte-at-requires returns-2)

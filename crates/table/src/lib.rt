@@ -1,0 +1,82 @@
+// The node table's use, removal, emptying and enrolment, in lent memory (document 01, "What the commands do").
+// Every byte of the table is the definition's: crate nodes, specs/Table.antt. It stands on the table's rules and the store's runs of bytes.
+ghost use Prim.Native.Nat.{_<_};
+ghost use mathlib.Core.Path.{_≡_};
+ghost use lib.ListN.{getD};
+ghost use Rattle.nodes.specs.Table.{nodeCount, inUse, bit, isRemoved, removeOne, remove, emptied, enrolled};
+
+// Whether a node is in use.
+pub fn in_use(table: &[u8], node: usize) -> bool
+    ensures { λ r. ⌜ r ≡ inUse (now (table .entry)) node ⌝ }
+{
+    if nodes::NODES <= node {
+        return false;
+    }
+    byte_at(table, node * nodes::RECORD) == 1
+}
+
+// Whether the bits name node k, and it is in use.
+pub fn is_removed(table: &[u8], bits: &[u8], k: usize) -> bool
+    ensures { λ r. ⌜ r ≡ isRemoved (now (table .entry)) (now (bits .entry)) k ⌝ }
+{
+    if bit(bits, k) {
+        return in_use(table, k);
+    }
+    false
+}
+
+fn bit(bits: &[u8], k: usize) -> bool
+    ensures { λ r. ⌜ r ≡ bit (now (bits .entry)) k ⌝ }
+{
+    let byte = byte_at(bits, k / 8);
+    let shift = (k % 8) as u8;
+    (byte >> shift) % 2 == 1
+}
+
+// A byte that is not there counts as 0.
+fn byte_at(bytes: &[u8], at: usize) -> u8
+    ensures { λ r. ⌜ r ≡ getD (now (bytes .entry)) at 0 ⌝ }
+{
+    if at < bytes.len() {
+        return bytes[at];
+    }
+    0
+}
+
+// The nodes in use that the bits name are removed.
+pub fn remove(table: &mut [u8], bits: &[u8])
+    ensures { λ r. ⌜ now (table .exit) ≡ remove (now (bits .entry)) (now (table .entry)) ⌝ }
+{
+    let mut k = 0;
+    while k < nodes::NODES {
+        remove_one(table, bits, k);
+        k += 1;
+    }
+}
+
+fn remove_one(table: &mut [u8], bits: &[u8], k: usize)
+    requires { ⌜ k < nodeCount ⌝ }
+    ensures { λ r. ⌜ now (table .exit) ≡ removeOne (now (bits .entry)) k (now (table .entry)) ⌝ }
+{
+    if is_removed(table, bits, k) {
+        store::fill(table, k * nodes::RECORD, nodes::RECORD, 0);
+    }
+}
+
+// All bytes become zero.
+pub fn empty(table: &mut [u8])
+    ensures { λ r. ⌜ now (table .exit) ≡ emptied (now (table .entry)) ⌝ }
+{
+    let n = table.len();
+    store::fill(table, 0, n, 0);
+}
+
+// A node's record is made anew: in use, with its type.
+pub fn enrol(table: &mut [u8], node: u8, kind: u16)
+    ensures { λ r. ⌜ now (table .exit) ≡ enrolled (now (table .entry)) node kind ⌝ }
+{
+    let at = (node as usize) * nodes::RECORD;
+    let front = [1, (kind / 256) as u8, (kind % 256) as u8];
+    store::copy(table, at, &front);
+    store::fill(table, at + 3, nodes::RECORD - 3, 0);
+}
