@@ -1,10 +1,11 @@
-// Passwords and logins: password enter and change, and who is logged in (document 01, "What the commands do").
+// The hub's state: password enter and change, who is logged in, and the sessions put back (document 01, "What the commands do").
 // Answers and hubs are the definition's: crate rules, specs/Hub.antt. It stands on the hub's rules.
 ghost use mathlib.Core.Path.{_≡_};
 ghost use lib.ListN.{set};
-ghost use Rattle.rules.specs.Hub.{same, enter, change, isListed};
+ghost use Rattle.rules.specs.Hub.{same, enter, change, withSlots, isListed};
 ghost use Rattle.access.specs.Answers.{Enters};
 use rules::Hub;
+use sessions::Slot;
 
 // What a password request answers, and the hub that it leaves.
 pub struct Entered {
@@ -83,6 +84,19 @@ pub fn with_login(logins: [bool; 4], line: u8, value: bool) -> [bool; 4]
     let mut out = logins;
     out[k] = value;
     out
+}
+
+// The hub with other sessions.
+pub fn with_slots(hub: Hub, slots: [Slot; 8]) -> Hub
+    ensures { λ r. ⌜ r ≡ withSlots hub slots ⌝ }
+{
+    let password = hub.password;
+    let logins = hub.logins;
+    Hub {
+        password: password,
+        logins: logins,
+        slots: slots,
+    }
 }
 
 // All bytes are compared.

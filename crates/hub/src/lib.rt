@@ -11,7 +11,7 @@ ghost use Rattle.nodes.specs.Table.{tableSize};
 ghost use Rattle.feeds.specs.System.{serveIf};
 ghost use Rattle.feeds.specs.Service.{Promise};
 ghost use Rattle.requests.specs.Answers.{Replied, Serves};
-ghost use Rattle.rules.specs.Hub.{freshHub, firstHub, passwordSize, notice, hub as system, closedLine, withSlots};
+ghost use Rattle.rules.specs.Hub.{freshHub, firstHub, passwordSize, notice, hub as system, closedLine};
 ghost use Rattle.rules.specs.Promises.{Starts, Enrols, Closes, Finishes};
 ghost use Rattle.hub.specs.Answers.{startedOf, enrolledOf, closedOf, finishedOf, fedOf, refusedFeed};
 use frame::Outcome;
@@ -19,7 +19,6 @@ use frame::Written;
 use line::Reading;
 use requests::Served;
 use rules::Hub;
-use sessions::Slot;
 use sessions::Told;
 
 // Why a call is refused.
@@ -202,24 +201,12 @@ pub fn finish(hub: Hub, session: u16, room: &mut [u8]) -> Finished
         },
         Told::Line(line) => {
             let len = notice(room, session);
-            let next = with_slots(hub, slots);
+            let next = access::with_slots(hub, slots);
             Finished {
                 answer: FinishAnswer::Finished { line, len },
                 hub: next,
             }
         }
-    }
-}
-
-fn with_slots(hub: Hub, slots: [Slot; 8]) -> Hub
-    ensures { λ r. ⌜ r ≡ withSlots hub slots ⌝ }
-{
-    let password = hub.password;
-    let logins = hub.logins;
-    Hub {
-        password: password,
-        logins: logins,
-        slots: slots,
     }
 }
 

@@ -11,7 +11,7 @@ ghost use Rattle.nodes.specs.Table.{tableSize, setName, setOrderAndPlacement, s
 ghost use Rattle.sessions.specs.Sessions.{closeAll};
 ghost use Rattle.directory.specs.declared.Verdict.the-variants.{Fits};
 ghost use Rattle.directory.specs.Lookup.{verdict};
-ghost use Rattle.rules.specs.Hub.{passwordSize, errorReply, enter, getNode, nodeReply, withSlots, removeNodes, virginState, modeSend, request, mayAsk, serve};
+ghost use Rattle.rules.specs.Hub.{passwordSize, errorReply, enter, getNode, nodeReply, removeNodes, virginState, modeSend, request, mayAsk, serve};
 ghost use Rattle.requests.specs.Answers.{Replied, RepliedAt, Serves, Answered, changed, served, refusal};
 use directory::Verdict;
 use frame::Written;
@@ -216,7 +216,7 @@ fn remove_nodes(hub: Hub, table: &mut [u8], room: &mut [u8], bits: &[u8]) -> Ser
     table::remove(table, bits);
     let scene_deleted = [0];
     let n = reply(room, 0x0107, &scene_deleted);
-    let next = with_slots(hub, left);
+    let next = access::with_slots(hub, left);
     Served { hub: next, len: n }
 }
 
@@ -229,7 +229,7 @@ fn virgin_state(hub: Hub, table: &mut [u8], room: &mut [u8]) -> Served
     let n = reply(room, 0x0109, &nothing);
     let slots = hub.slots;
     let left = close_all(slots);
-    let next = with_slots(hub, left);
+    let next = access::with_slots(hub, left);
     Served { hub: next, len: n }
 }
 
@@ -249,20 +249,8 @@ fn mode_send(hub: Hub, table: &[u8], room: &mut [u8], line: u8, payload: &[u8]) 
     let left = sent.slots;
     let confirm = [payload[0], payload[1], sent.status];
     let n = reply(room, 0x0321, &confirm);
-    let next = with_slots(hub, left);
+    let next = access::with_slots(hub, left);
     Served { hub: next, len: n }
-}
-
-fn with_slots(hub: Hub, slots: [Slot; 8]) -> Hub
-    ensures { λ r. ⌜ r ≡ withSlots hub slots ⌝ }
-{
-    let password = hub.password;
-    let logins = hub.logins;
-    Hub {
-        password: password,
-        logins: logins,
-        slots: slots,
-    }
 }
 
 // The error frame with one byte.

@@ -8,7 +8,7 @@ use Rattle.hub.proofs.finish.Tie as tie
 use Rattle.hub.proofs.finish.Reads as reads
 use Rattle.hub.proofs.finish.Lts as lts
 use Rattle.hub.proofs.notice.Reads as notice-reads
-use Rattle.hub.proofs.with_slots.Reads as with-slots-reads
+use Rattle.access.proofs.with_slots.Reads as with-slots-reads
 use Rattle.slots.proofs.finish.Reads as finish-reads
 
 -- src/lib.rt:189:9

@@ -8,7 +8,7 @@ use Rattle.requests.proofs.virgin_state.Lts as lts
 use Rattle.table.proofs.empty.Reads as empty-reads
 use Rattle.requests.proofs.close_all.Reads as close-all-reads
 use Rattle.requests.proofs.reply.Reads as reply-reads
-use Rattle.requests.proofs.with_slots.Reads as with-slots-reads
+use Rattle.access.proofs.with_slots.Reads as with-slots-reads
 
 -- src/lib.rt:203:5
 empty-requires : tie.Need-empty-requires
