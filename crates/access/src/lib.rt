@@ -7,6 +7,11 @@ ghost use Rattle.access.specs.Answers.{Enters};
 use rules::Hub;
 use sessions::Slot;
 
+// The statuses of the password requests.
+const CORRECT: u8 = 0;
+
+const INCORRECT: u8 = 1;
+
 // What a password request answers, and the hub that it leaves.
 pub struct Entered {
     pub status: u8,
@@ -20,7 +25,7 @@ pub fn enter(hub: Hub, line: u8, given: [u8; 32]) -> Entered
     let password = hub.password;
     if !same(given, password) {
         return Entered {
-            status: 1,
+            status: INCORRECT,
             hub: hub,
         };
     }
@@ -33,7 +38,7 @@ pub fn enter(hub: Hub, line: u8, given: [u8; 32]) -> Entered
         slots: slots,
     };
     Entered {
-        status: 0,
+        status: CORRECT,
         hub: next,
     }
 }
@@ -45,7 +50,7 @@ pub fn change(hub: Hub, old: [u8; 32], new: [u8; 32]) -> Entered
     let password = hub.password;
     if !same(old, password) {
         return Entered {
-            status: 1,
+            status: INCORRECT,
             hub: hub,
         };
     }
@@ -57,7 +62,7 @@ pub fn change(hub: Hub, old: [u8; 32], new: [u8; 32]) -> Entered
         slots: slots,
     };
     Entered {
-        status: 0,
+        status: CORRECT,
         hub: next,
     }
 }

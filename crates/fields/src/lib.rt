@@ -29,7 +29,7 @@ pub fn set_variation(table: &mut [u8], node: u8, variation: u8) -> u8
     ensures { λ r. ⌜ Results (setVariation (now (table .entry)) node variation) r (now (table .exit)) ⌝ }
 {
     if is_rejected(table, node as usize, variation) {
-        return 1;
+        return nodes::REJECTED;
     }
     let value = [variation];
     set_field(table, node as usize, Field { at: 70, size: 1 }, &value)
@@ -50,12 +50,12 @@ fn set_field(table: &mut [u8], node: usize, field: Field, value: &[u8]) -> u8
     ensures { λ r. ⌜ Results (setField field (now (table .entry)) node (now (value .entry))) r (now (table .exit)) ⌝ }
 {
     if !table::in_use(table, node) {
-        return 2;
+        return nodes::INVALID_NODE;
     }
     let at = field.at;
     let n = least(field.size, value.len());
     store::copy(table, node * nodes::RECORD + at, &value[0..n]);
-    0
+    nodes::ACCEPTED
 }
 
 fn least(a: usize, b: usize) -> usize

@@ -12,6 +12,13 @@ pub const TABLE: usize = NODES * RECORD;
 // How many bytes a node's information has.
 pub const INFORMATION: usize = 124;
 
+// The statuses of the node commands.
+pub const ACCEPTED: u8 = 0;
+
+pub const REJECTED: u8 = 1;
+
+pub const INVALID_NODE: u8 = 2;
+
 // A field of a record: where it stands, and how long it is.
 pub struct Field {
     pub at: usize,

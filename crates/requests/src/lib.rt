@@ -19,6 +19,13 @@ use frame::WrittenAt;
 use rules::Hub;
 use sessions::Slot;
 
+// The bytes of the error frame.
+const UNKNOWN_COMMAND: u8 = 1;
+
+const FRAME_ERROR: u8 = 2;
+
+const NOT_LOGGED_IN: u8 = 12;
+
 // The hub that serving leaves, and the length of the reply at the room's front.
 pub struct Served {
     pub hub: Hub,
@@ -52,7 +59,7 @@ pub fn refuse(room: &mut [u8]) -> usize
     if room.len() < frame::ROOM {
         return 0;
     }
-    fail(room, 2)
+    fail(room, FRAME_ERROR)
 }
 
 // The order of document 01: command unknown, length outside its range, not logged in, not served.
@@ -69,11 +76,11 @@ fn judged(
 {
     match directory::judge(command, payload.len()) {
         Verdict::Unknown => {
-            let n = fail(room, 1);
+            let n = fail(room, UNKNOWN_COMMAND);
             Served { hub: hub, len: n }
         }
         Verdict::WrongLength => {
-            let n = fail(room, 2);
+            let n = fail(room, FRAME_ERROR);
             Served { hub: hub, len: n }
         }
         Verdict::Fits => {
@@ -81,7 +88,7 @@ fn judged(
             if may_ask(logins, line, command) {
                 return request(hub, table, room, line, command, payload);
             }
-            let n = fail(room, 12);
+            let n = fail(room, NOT_LOGGED_IN);
             Served { hub: hub, len: n }
         }
     }
@@ -119,7 +126,7 @@ fn request(
         0x0108 => virgin_state(hub, table, room),
         0x0320 => mode_send(hub, table, room, line, payload),
         _ => {
-            let n = fail(room, 1);
+            let n = fail(room, UNKNOWN_COMMAND);
             Served { hub: hub, len: n }
         }
     }
@@ -165,13 +172,13 @@ fn get_node(hub: Hub, table: &[u8], room: &mut [u8], node: u8) -> Served
 {
     let informed = fields::information(table, node);
     if !informed.known {
-        let refused = confirm(room, 0x0201, 2, node);
+        let refused = confirm(room, 0x0201, nodes::INVALID_NODE, node);
         return Served {
             hub: hub,
             len: refused,
         };
     }
-    let first = confirm(room, 0x0201, 0, node);
+    let first = confirm(room, 0x0201, nodes::ACCEPTED, node);
     let bytes = informed.bytes;
     let n = reply_at(room, first, 0x0210, &bytes);
     Served { hub: hub, len: n }
