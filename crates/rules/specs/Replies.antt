@@ -84,6 +84,13 @@ virgin : serve moving windows 2 (frame 0x0108 []) ≡ record { hub = loggedIn; t
 unfolding windows loggedIn modeSendOf moving serve request enter same rules.modeSend rules.virginState sessions.modeSend sessions.isLegal sessions.targetsLegal sessions.marked search.any search.first table.inUse lookup.verdict lookup.verdictOf lookup.find directory
 virgin = refl
 
+-- the confirms of the node set commands: status 0, node 7
+confirmed : serve loggedIn windows 2 (frame 0x0206 (7 ∷ 3 ∷ [])) .reply ∷ serve loggedIn windows 2 (frame 0x0208 (7 ∷ replicate 64 9)) .reply
+    ∷ serve loggedIn windows 2 (frame 0x020D (7 ∷ 0 ∷ 1 ∷ 2 ∷ [])) .reply ∷ []
+    ≡ (192 ∷ 0 ∷ 5 ∷ 2 ∷ 7 ∷ 0 ∷ 7 ∷ 7 ∷ 192 ∷ []) ∷ (192 ∷ 0 ∷ 5 ∷ 2 ∷ 9 ∷ 0 ∷ 7 ∷ 9 ∷ 192 ∷ []) ∷ (192 ∷ 0 ∷ 5 ∷ 2 ∷ 14 ∷ 0 ∷ 7 ∷ 14 ∷ 192 ∷ []) ∷ []
+unfolding windows loggedIn serve request enter same table.setVariation table.setField table.inUse lookup.verdict lookup.verdictOf lookup.find directory wire escape framed body xor.xorAll xor._⊕_
+confirmed = refl
+
 -- removing node 199 closes the session, removing node 198 does not
 removed : serve moving windows 2 (frame 0x0106 (replicate 24 0 ++ (128 ∷ 0 ∷ []))) .hub ∷ serve moving windows 2 (frame 0x0106 (replicate 24 0 ++ (64 ∷ 0 ∷ []))) .hub ∷ [] ≡ loggedIn ∷ moving ∷ []
 unfolding windows loggedIn modeSendOf moving serve request enter same rules.modeSend rules.removeNodes sessions.modeSend sessions.isLegal sessions.targetsLegal sessions.marked sessions.holdsRemoved search.any search.first search.below table.inUse table.bit lookup.verdict lookup.verdictOf lookup.find directory
