@@ -88,13 +88,7 @@ pub fn close(writer: &mut Writer, line: u8) {
 
 /// Finishes an open session if there is one.
 fn finish(writer: &mut Writer) {
-    let open: Vec<u16> = writer
-        .replay
-        .hub
-        .sessions
-        .open()
-        .map(|open| open.number)
-        .collect();
+    let open = writer.open_sessions();
     if open.is_empty() {
         return any_call(writer);
     }

@@ -44,13 +44,7 @@ pub fn script(feeds: usize) -> Vec<u8> {
 }
 
 fn finish_all(writer: &mut Writer) {
-    let open: Vec<u16> = writer
-        .replay
-        .hub
-        .sessions
-        .open()
-        .map(|open| open.number)
-        .collect();
+    let open = writer.open_sessions();
     for session in open {
         let room = ROOM_LEAST;
         writer.call(Call::Finish { session, room });

@@ -191,13 +191,7 @@ fn spoil_mode_send(data: &mut [u8], writer: &mut Writer) {
 
 /// The number of an open session, if there is one, half of the time.
 pub fn any_session(writer: &mut Writer) -> u16 {
-    let open: Vec<u16> = writer
-        .replay
-        .hub
-        .sessions
-        .open()
-        .map(|open| open.number)
-        .collect();
+    let open = writer.open_sessions();
     if open.is_empty() || writer.random.once_in(2) {
         let any = writer.random.draw() as u16;
         writer.random.pick(&[0, 1, 65535, any])

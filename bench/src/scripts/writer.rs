@@ -33,6 +33,12 @@ impl Writer {
         }
     }
 
+    /// The numbers of the open sessions, by slot.
+    pub fn open_sessions(&self) -> Vec<u16> {
+        let sessions = &self.replay.hub.sessions;
+        sessions.open().map(|open| open.number).collect()
+    }
+
     /// Writes a call.
     pub fn call(&mut self, call: Call) -> Told {
         self.line(call.to_string().as_bytes())

@@ -1,8 +1,10 @@
 -- What the hub's calls answer, by document 01's numbers.
-use Prim.Native.Nat.{ℕ}
+use Prim.Native.Nat.{ℕ, _≤_}
 use mathlib.Core.List.{List}
 use mathlib.Core.Option.{Option, none, some}
 use Rattle.line.specs.declared.Reading.{Reading}
+use Rattle.line.specs.Reader.{limit}
+use Rattle.line.specs.Answers.{Clear}
 use Rattle.frame.specs.Answers as outcome
 use Rattle.feeds.specs.System as feeds
 use Rattle.feeds.specs.Service.{Got}
@@ -64,3 +66,15 @@ fedOf r t room = record { hub = r .hub; table = t; reading = r .reading; answer 
 -- `refused`: hub and record as they were lent
 abbrev pub refusedFeed : Hub → Reading → Refusal → Fed
 refusedFeed h r why = record { answer = feed.Refused why; hub = h; reading = r }
+
+-- a record that a call gives back claims no more than 255 bytes, and none while it skips; one of a refused call lies as it was lent
+abbrev pub Bounded : Reading → Type 0
+Bounded r = (r .count ≤ limit) × Clear (r .mode) (r .count)
+
+abbrev pub BoundedClosed : CallAnswer → Reading → Type 0
+BoundedClosed call.Done r = Bounded r
+BoundedClosed (call.Refused why) r = Unit {0}
+
+abbrev pub BoundedFed : FeedAnswer → Reading → Type 0
+BoundedFed (feed.Told used o len) r = Bounded r
+BoundedFed (feed.Refused why) r = Unit {0}

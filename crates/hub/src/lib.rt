@@ -13,7 +13,7 @@ ghost use Rattle.feeds.specs.Service.{Promise};
 ghost use Rattle.requests.specs.Answers.{Replied, Serves};
 ghost use Rattle.rules.specs.Hub.{freshHub, firstHub, passwordSize, notice, hub as system, closedLine};
 ghost use Rattle.rules.specs.Promises.{Starts, Enrols, Closes, Finishes};
-ghost use Rattle.hub.specs.Answers.{startedOf, enrolledOf, closedOf, finishedOf, fedOf, refusedFeed};
+ghost use Rattle.hub.specs.Answers.{startedOf, enrolledOf, closedOf, finishedOf, fedOf, refusedFeed, BoundedClosed, BoundedFed};
 use frame::Outcome;
 use frame::Written;
 use line::Reading;
@@ -147,7 +147,7 @@ pub fn enrol(table: &mut [u8], node: u8, kind: u16) -> CallAnswer
 
 // A line is closed: its login is lost, its reading state emptied, its sessions closed.
 pub fn close(hub: Hub, reading: Reading, line: u8) -> Closed
-    ensures { λ r. ⌜ Closes hub reading line (closedOf r) ⌝ }
+    ensures { λ r. ⌜ Closes hub reading line (closedOf r) × BoundedClosed (r .answer) (r .reading) ⌝ }
 {
     if rules::LINES <= line as usize {
         return Closed {
@@ -232,7 +232,7 @@ pub fn feed(
     bytes: &[u8],
     room: &mut [u8],
 ) -> Fed
-    ensures { λ r. ⌜ Promise system hub (now (table .entry)) reading line (now (bytes .entry)) (now (room .entry)) (fedOf r (now (table .exit)) (now (room .exit))) ⌝ }
+    ensures { λ r. ⌜ Promise system hub (now (table .entry)) reading line (now (bytes .entry)) (now (room .entry)) (fedOf r (now (table .exit)) (now (room .exit))) × BoundedFed (r .answer) (r .reading) ⌝ }
 {
     if table.len() != nodes::TABLE {
         return refused(hub, reading, Refusal::WrongTable);

@@ -14,7 +14,7 @@ use Rattle.hub.proofs.closed_line.Reads as closed-line-reads
 
 -- src/lib.rt:154:9
 returns : tie.Need-returns
-returns c = close-wrong _ _ _ (c .if1 .taken)
+returns c = (close-wrong _ _ _ (c .if1 .taken), tt)
 
 -- src/lib.rt:160:9
 closed-line-requires : tie.Need-closed-line-requires
@@ -26,7 +26,7 @@ emptied-requires c κs = search needs
 
 -- src/lib.rt:150:1
 returns-2 : tie.Need-returns-2
-returns-2 c = rw (c .emptied .ensures, c .before .closed-line .ensures) (close-done _ _ _ (c .before .before .if1 .left))
+returns-2 c = rw (c .emptied .ensures, c .before .closed-line .ensures) (close-done _ _ _ (c .before .before .if1 .left), (omega arith, tt))
 
 pub close-spec : {M : Type 1} → statement M
 close-spec = tie.close (tie.spec returns closed-line-requires emptied-requires returns-2)
