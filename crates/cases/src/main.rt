@@ -160,7 +160,7 @@ fn read_all(start: Run, wire: &[u8]) -> Run {
     let mut reading = start.reading;
     let mut at = 0;
     while at < wire.len() {
-        let answer = line::read(reading, &wire[at..]);
+        let answer = wire::read(reading, &wire[at..]);
         let used = answer.used;
         let outcome = answer.outcome;
         let after = answer.reading;
@@ -187,7 +187,7 @@ fn cut(wire: Text, at: usize) -> Text {
     }
     let start = Run {
         text: empty(),
-        reading: line::emptied(),
+        reading: wire::emptied(),
     };
     let half = read_all(start, &bytes[0..at]);
     let end = read_all(half, &bytes[at..len]);
@@ -283,7 +283,7 @@ fn show_record(mode: Mode, count: usize, wire: &[u8]) {
     };
     let claims = put_decimal(put_mode(put_all(empty(), b"record"), mode), count);
     let reads = put_bytes(put_all(claims, b" reads "), wire);
-    let answer = line::read(lent, wire);
+    let answer = wire::read(lent, wire);
     let outcome = answer.outcome;
     let after = answer.reading;
     let told = put_outcome(put_all(reads, b":"), outcome, after);
@@ -325,7 +325,7 @@ fn put_written(text: Text, room: &[u8], n: usize) -> Text {
     }
     let wire = put_bytes(text, &room[0..n]);
     let behind = put_bytes(put_all(wire, b" then "), &room[n..]);
-    let answer = frame::read(frame::emptied(), &room[0..n]);
+    let answer = reader::read(reader::emptied(), &room[0..n]);
     let outcome = answer.outcome;
     put_frame(put_all(behind, b" reads"), outcome)
 }

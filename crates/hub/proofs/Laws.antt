@@ -20,14 +20,14 @@ use Rattle.requests.specs.Answers.{Replied, Serves}
 use Rattle.rules.specs.declared.Hub.{Hub}
 use Rattle.rules.specs.Hub.{lineCount, wrongLine, shortRoom, notOpen, withSlots, closedLine, refusedFinish, finishedOn, notice, feedRefusal, hub}
 use Rattle.rules.specs.Promises.{Closes, Finishes}
-use Rattle.rules.specs.Feeds.{feed-refused}
+use Rattle.feeds.specs.CallLaws.{call-refused}
 
 module _ (h : Hub) (t : List ℕ) (r : Reading) (l : ℕ) (bytes space : List ℕ) where
   -- a refused feed leaves everything as it was lent
   pub refused-promise : (n : ℕ) → feedRefusal t l (length space) ≡ some n
       → Promise hub h t r l bytes space (record { hub = h; table = t; reading = r; answer = refused n; room = space })
   refused-promise n e =
-      let x = feed-refused h t (taken r) l bytes (length space) n e in
+      let x = call-refused hub h t (taken r) l bytes (length space) n e in
       record { hub = rw x; table = rw x; state = rw x; answer = rw x; room = rw x; kept = λ m y. refl }
 
   -- any other is what was read and how it was served

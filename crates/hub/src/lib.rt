@@ -157,7 +157,7 @@ pub fn close(hub: Hub, reading: Reading, line: u8) -> Closed
         };
     }
     let next = closed_line(hub, line);
-    let emptied = frame::emptied();
+    let emptied = reader::emptied();
     Closed {
         answer: CallAnswer::Done,
         hub: next,
@@ -243,7 +243,7 @@ pub fn feed(
     if room.len() < frame::ROOM {
         return refused(hub, reading, Refusal::ShortRoom);
     }
-    let read = frame::read(reading, bytes);
+    let read = reader::read(reading, bytes);
     let used = read.used;
     let outcome = read.outcome;
     let after = read.reading;

@@ -42,7 +42,7 @@ pub fn list(reading: Reading, left: u64, wire: &[u8], out: &mut [u8]) -> Listed
         if out.len() - written < LINE {
             return answer(bytes, place, left, wire, at, written);
         }
-        let told = frame::read_in(&mut bytes, place, &wire[at..]);
+        let told = reader::read_in(&mut bytes, place, &wire[at..]);
         let used = told.used;
         let outcome = told.outcome;
         let after = told.place;

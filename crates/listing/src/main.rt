@@ -71,7 +71,7 @@ fn turn(state: State) -> State {
 
 fn main() {
     let mut state = State {
-        reading: frame::emptied(),
+        reading: reader::emptied(),
         left: 0,
         going: true,
     };

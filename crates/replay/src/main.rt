@@ -68,7 +68,7 @@ struct Taken {
 
 fn first() -> State {
     let hub = hub::first();
-    let reading = frame::emptied();
+    let reading = reader::emptied();
     State {
         hub: hub,
         readings: [reading; 4],
@@ -79,7 +79,7 @@ fn first() -> State {
 fn reading_of(readings: [Reading; 4], line: u8) -> Reading {
     let k = line as usize;
     if 4 <= k {
-        return frame::emptied();
+        return reader::emptied();
     }
     readings[k]
 }

@@ -1,17 +1,22 @@
 -- Demand 1, over the definitions: a refused call changes nothing; a refused packet brings one error reply only.
-use Prim.Native.Nat.{ℕ}
-use mathlib.Core.Path.{_≡_, refl, ap}
-use mathlib.Core.List.{List, []}
+use Prim.Native.Nat.{ℕ, _≤_, _<_}
+use mathlib.Core.Path.{_≡_, refl, sym, ap, _∙_}
+use mathlib.Core.List.{List, [], _++_}
 use mathlib.Core.Option.{Option, none, some}
 use mathlib.Core.Bool.{Bool, true, false}
 use native.Mathlib.Omega.{arith}
 use Rattle.frame.specs.Frame.{refused}
-use Rattle.frame.specs.Reading.{State}
+use Rattle.line.specs.declared.Reading.{Reading}
+use Rattle.frame.specs.Reading.{State, taken}
 use lib.Dec.{ltb}
+use lib.ListN.{length, drop}
+use borrow.Author.Tests.{eq-eqb, ne-eqb, lt-ltb, le-ltb}
 use Rattle.frame.specs.Writing.{minRoom}
+use Rattle.nodes.specs.Table.{tableSize}
 use Rattle.sessions.specs.Sessions as sessions
 use Rattle.rules.specs.declared.Hub.{Hub}
-use Rattle.rules.specs.Hub.{errorReply, frameError, serve, startRefusal, startBy, start, enrolRefusal, enrolBy, enrol, closeRefusal, closeBy, close, Finish, refusedFinish, Finished, finishBy, finish, hub}
+use Rattle.rules.specs.Hub.{errorReply, frameError, serve, startRefusal, startBy, start, enrolRefusal, enrolBy, enrol, closeRefusal, closeBy, Closed, close, Finish, refusedFinish, Finished, finishBy, finish, lineCount, feedRefusal}
+use Rattle.rules.specs.Promises.{ClosedLine, Closes, FinishedSession, Finishes}
 
 -- start gives back the hub and the table that it was lent
 pub start-refused : (h : Hub) (t p : List ℕ) (n : ℕ) → start h t p .refusal ≡ some n → start h t p ≡ record { refusal = some n; hub = h; table = t }
@@ -46,7 +51,29 @@ finish-refused h x room n e = go (ltb room minRoom) (sessions.finish (h .slots) 
     go false none e = ap (λ (a : Finish). record { answer = a; hub = h; reply = [] }) e
     go false (some f) e = let z : _≡_ {A = ℕ} 0 1 = cc in absurd (omega arith)
 
+-- so does every close and finish that keeps its promise: hub, record and room are as they were lent
+pub close-kept : (h : Hub) (r : Reading) (l : ℕ) (o : ClosedLine) (n : ℕ) → Closes h r l o → o .refusal ≡ some n → (o .hub ≡ h) × (o .reading ≡ r)
+close-kept h r l o n x e = (x .hub ∙ ap (λ (c : Closed). c .hub) (close-refused h (taken r) l n (sym (x .refusal) ∙ e)), x .kept n e)
+
+pub finish-kept : (h : Hub) (y : ℕ) (space : List ℕ) (o : FinishedSession) (n : ℕ) → Finishes h y space o → o .answer ≡ refusedFinish n → (o .hub ≡ h) × (o .room ≡ space)
+finish-kept h y space o n x e =
+    let f = finish-refused h y (length space) n (sym (x .answer) ∙ e) in
+    (x .hub ∙ ap (λ (c : Finished). c .hub) f, x .room ∙ ap (λ (c : Finished). c .reply ++ drop (length (c .reply)) space) f)
+
 -- a refused packet brings the error frame with byte 2, and leaves hub and table
 pub serve-refused : (h : Hub) (t : List ℕ) (l n : ℕ) → serve h t l (refused n) ≡ record { hub = h; table = t; reply = errorReply frameError }
 unfolding serve
 serve-refused h t l n = refl
+
+-- a feed is refused, in this order, for a table that is not 14,400 bytes long (7), a line above 3 (8), room below 512 (9)
+pub refused-table : (t : List ℕ) (l room : ℕ) → (length t ≡ 14400 → ⊥) → feedRefusal t l room ≡ some 7
+refused-table t l room e = rw (ne-eqb (length t) tableSize e)
+
+pub refused-line : (t : List ℕ) (l room : ℕ) → length t ≡ 14400 → 3 < l → feedRefusal t l room ≡ some 8
+refused-line t l room e h = rw (eq-eqb (length t) tableSize e, le-ltb l lineCount (omega arith))
+
+pub refused-room : (t : List ℕ) (l room : ℕ) → length t ≡ 14400 → l ≤ 3 → room < 512 → feedRefusal t l room ≡ some 9
+refused-room t l room e h k = rw (eq-eqb (length t) tableSize e, lt-ltb l lineCount (omega arith), lt-ltb room minRoom k)
+
+pub not-refused : (t : List ℕ) (l room : ℕ) → length t ≡ 14400 → l ≤ 3 → 512 ≤ room → feedRefusal t l room ≡ none
+not-refused t l room e h k = rw (eq-eqb (length t) tableSize e, lt-ltb l lineCount (omega arith), le-ltb room minRoom k)

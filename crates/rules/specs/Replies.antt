@@ -2,6 +2,7 @@
 use Prim.Native.Nat.{ℕ, _-_}
 use mathlib.Core.Path.{_≡_, refl}
 use mathlib.Core.List.{List, [], _∷_, _++_, map}
+use mathlib.Core.Bool.{true, false}
 use mathlib.Core.Option.{none, some}
 use lib.ListN.{length, replicate}
 use Rattle.frame.specs.Frame.{frame, refused, wire, escape, framed, body}
@@ -57,6 +58,15 @@ errors : serve firstHub windows 2 (refused 6) .reply ∷ serve firstHub windows 
     ≡ map (λ (e : ℕ). wire 0x0000 (e ∷ [])) (2 ∷ 1 ∷ 2 ∷ 12 ∷ 1 ∷ [])
 unfolding windows loggedIn serve request enter same lookup.verdict lookup.verdictOf lookup.find directory wire escape framed body xor.xorAll xor._⊕_
 errors = refl
+
+-- a wrong password leaves every login; feed serves a line as itself
+wrong-password : serve loggedIn windows 2 (frame 0x3000 (replicate 32 1)) .hub ≡ loggedIn
+unfolding windows loggedIn serve request enter same lookup.verdict lookup.verdictOf lookup.find directory
+wrong-password = refl
+
+fed-on-its-line : rules.hub .serve firstHub windows 1 (frame 0x3000 (replicate 32 0)) .hub .logins ≡ false ∷ true ∷ false ∷ false ∷ []
+unfolding windows serve request enter same lookup.verdict lookup.verdictOf lookup.find directory
+fed-on-its-line = refl
 
 -- password change: the last 32 bytes become the password, or nothing changes
 changed : serve loggedIn windows 2 (frame 0x3002 (replicate 32 0 ++ replicate 32 8)) .hub .password ∷ serve loggedIn windows 2 (frame 0x3002 (replicate 32 8 ++ replicate 32 0)) .hub .password ∷ []

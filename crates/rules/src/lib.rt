@@ -1,4 +1,4 @@
-// The hub's rules: what each request and host call does, and feed (document 01), with the demands proved of them.
+// The hub's rules: what each request and host call does, and feed (document 01). The demands are proved of them in `demands`.
 // It has no code. The hub's state is declared here, its rules are defined in specs/Hub.antt.
 // It stands on what the frame layer, the directory, the node table and the sessions state.
 use sessions::Slot;

@@ -50,7 +50,7 @@ fn wire_len(command: u16, payload: &[u8]) -> usize
     ensures { λ r. ⌜ r ≡ length (wire command (now (payload .entry))) ⌝ }
 {
     let head = head_of(command, payload.len());
-    let check = [frame::xor_all(&head) ^ frame::xor_all(payload)];
+    let check = [checks::xor_all(&head) ^ checks::xor_all(payload)];
     escaped_len(&head) + escaped_len(payload) + escaped_len(&check) + 2
 }
 
@@ -60,7 +60,7 @@ fn put_wire(room: &mut [u8], start: usize, command: u16, payload: &[u8]) -> usiz
     ensures { λ r. ⌜ Wrote (now (room .entry)) start (wire command (now (payload .entry))) (now (room .exit)) r ⌝ }
 {
     let head = head_of(command, payload.len());
-    let check = [frame::xor_all(&head) ^ frame::xor_all(payload)];
+    let check = [checks::xor_all(&head) ^ checks::xor_all(payload)];
     room[start] = line::END;
     let a = put_all(room, start + 1, &head);
     let b = put_all(room, a, payload);

@@ -9,7 +9,7 @@ use Rattle.hub.proofs.close.Statement.{statement}
 use Rattle.hub.proofs.close.Tie as tie
 use Rattle.hub.proofs.close.Reads as reads
 use Rattle.hub.proofs.close.Lts as lts
-use Rattle.frame.proofs.emptied.Reads as emptied-reads
+use Rattle.reader.proofs.emptied.Reads as emptied-reads
 use Rattle.hub.proofs.closed_line.Reads as closed-line-reads
 
 -- src/lib.rt:154:9

@@ -1,5 +1,5 @@
 use Rattle.hub.proofs.Laws.{refused-promise, served-promise}
-use Rattle.rules.specs.Feeds.{refused-table, refused-line, refused-room, not-refused}
+use Rattle.rules.specs.Refusals.{refused-table, refused-line, refused-room, not-refused}
 use lib.ListN.{length}
 use native.Mathlib.Omega.{arith}
 use mathlib.Core.Path.{_≡_}
@@ -8,7 +8,7 @@ use Rattle.hub.proofs.feed.Statement.{statement}
 use Rattle.hub.proofs.feed.Tie as tie
 use Rattle.hub.proofs.feed.Reads as reads
 use Rattle.hub.proofs.feed.Lts as lts
-use Rattle.frame.proofs.read.Reads as read-reads
+use Rattle.reader.proofs.read.Reads as read-reads
 use Rattle.hub.proofs.refused.Reads as refused-reads
 use Rattle.hub.proofs.serve.Reads as serve-reads
 

@@ -1,0 +1,110 @@
+use Prim.Native.Nat.{ℕ, _+_, _-_}
+use mathlib.Core.Path.{_≡_, refl, sym, ap, _∙_}
+use native.Mathlib.Nat.{sub-zero}
+use native.Mathlib.Omega.{arith}
+use lib.ListN.{length, take, getD}
+use borrow.Author.Tests.{lt-leb, le-leb, eq-eqb, ne-eqb}
+use Rattle.frame.specs.Xor.{xorAll}
+use Rattle.frame.specs.Frame.{judge, tooLong, tooShort, wrongProtocol, wrongLength, wrongCheck}
+use borrow.Author.Needs.{needs}
+use Rattle.checks.proofs.judge.Statement.{statement}
+use Rattle.checks.proofs.judge.Tie as tie
+
+-- the length byte and 2, as the code has them
+length-byte : (c : tie.After-wide) → c .wide .result + 2 ≡ getD (c .before .before .before .before .before .before .before .args .packet .now) 1 0 + 2
+length-byte c = ap (λ (n : ℕ). n + 2) (c .wide .ensures)
+
+-- the check byte due
+check-due : (c : tie.After-xor-all) → c .xor-all .result ≡ xorAll (take (length (c .before .before .before .before .before .before .before .before .before .before .before .args .packet .now) - 1) (c .before .before .before .before .before .before .before .before .before .before .before .args .packet .now))
+check-due c = c .xor-all .ensures ∙ ap (λ (n : ℕ). xorAll (take n (c .before .before .before .before .before .before .before .before .before .before .before .args .packet .now))) (sub-zero (length (c .before .before .before .before .before .before .before .before .before .before .before .args .packet .now) - 1))
+
+returns : tie.Need-returns
+unfolding judge tooLong
+returns c = record { told = simp (lt-leb _ _ (c .if1 .taken)); within = tt }
+
+returns-2 : tie.Need-returns-2
+unfolding judge tooShort
+returns-2 c = record { told = simp (le-leb _ _ (c .before .if1 .left), lt-leb _ _ (c .if2 .taken)); within = tt }
+
+shared-slice-read-if3 : tie.Need-shared-slice-read-if3
+shared-slice-read-if3 c = search needs
+
+returns-3 : tie.Need-returns-3
+unfolding judge wrongProtocol
+returns-3 c = record { told = simp (le-leb _ _ (c .before .before .before .if1 .left), le-leb _ _ (c .before .before .if2 .left), ne-eqb _ _ (c .if3 .taken)); within = tt }
+
+shared-slice-read-wide : tie.Need-shared-slice-read-wide
+shared-slice-read-wide c = search needs
+
+wide-requires : tie.Need-wide-requires
+wide-requires c κs = search needs
+
+add-if4 : tie.Need-add-if4
+add-if4 c = omega (arith, c .wide .ensures, c .before .shared-slice-known3 .given 1)
+
+returns-4 : tie.Need-returns-4
+unfolding judge wrongLength
+returns-4 c = record { told = simp (le-leb _ _ (c .before .before .before .before .before .before .if1 .left), le-leb _ _ (c .before .before .before .before .before .if2 .left), eq-eqb _ _ (c .before .before .before .if3 .left), ne-eqb _ _ (λ e. c .if4 .taken (length-byte (c .before) ∙ e))); within = tt }
+
+sub-last : tie.Need-sub-last
+sub-last c = search needs
+
+shared-slice-read-if5 : tie.Need-shared-slice-read-if5
+shared-slice-read-if5 c = search needs
+
+sub-xor-all : tie.Need-sub-xor-all
+sub-xor-all c = search needs
+
+part-xor-all-start : tie.Need-part-xor-all-start
+part-xor-all-start c = search needs
+
+part-xor-all-end : tie.Need-part-xor-all-end
+part-xor-all-end c = search needs
+
+xor-all-requires : tie.Need-xor-all-requires
+xor-all-requires c κs = search needs
+
+returns-5 : tie.Need-returns-5
+unfolding judge wrongCheck
+returns-5 c = record { told = simp (le-leb _ _ (c .before .before .before .before .before .before .before .before .before .before .if1 .left), le-leb _ _ (c .before .before .before .before .before .before .before .before .before .if2 .left), eq-eqb _ _ (c .before .before .before .before .before .before .before .if3 .left), eq-eqb _ _ (sym (length-byte (c .before .before .before .before .before)) ∙ c .before .before .before .before .if4 .left), ne-eqb _ _ (λ e. c .if5 .taken (e ∙ sym (check-due (c .before))))); within = tt }
+
+shared-slice-read-word : tie.Need-shared-slice-read-word
+shared-slice-read-word c = search needs
+
+shared-slice-read-word-2 : tie.Need-shared-slice-read-word-2
+shared-slice-read-word-2 c = search needs
+
+word-requires : tie.Need-word-requires
+word-requires c κs = search needs
+
+returns-6 : tie.Need-returns-6
+unfolding judge
+returns-6 c =
+    record {
+      told = simp (le-leb _ _ (c .before .before .before .before .before .before .before .before .before .before .before .before .before .if1 .left), le-leb _ _ (c .before .before .before .before .before .before .before .before .before .before .before .before .if2 .left), eq-eqb _ _ (c .before .before .before .before .before .before .before .before .before .before .if3 .left), eq-eqb _ _ (sym (length-byte (c .before .before .before .before .before .before .before .before)) ∙ c .before .before .before .before .before .before .before .if4 .left), eq-eqb _ _ (c .before .before .before .if5 .left ∙ check-due (c .before .before .before .before)), c .word .ensures);
+      within = (refl, omega arith, omega arith);
+    }
+
+pub judge-spec : {M : Type 1} → statement M
+judge-spec =
+    tie.close
+    (tie.spec
+    returns
+    returns-2
+    shared-slice-read-if3
+    returns-3
+    shared-slice-read-wide
+    wide-requires
+    add-if4
+    returns-4
+    sub-last
+    shared-slice-read-if5
+    sub-xor-all
+    part-xor-all-start
+    part-xor-all-end
+    xor-all-requires
+    returns-5
+    shared-slice-read-word
+    shared-slice-read-word-2
+    word-requires
+    returns-6)

@@ -1,0 +1,66 @@
+// The checks on a packet, in document 01's order, and the exclusive or of its bytes ("From packet to frame").
+// Judging answers as the definition does: crate frame, specs/Frame.antt.
+// It stands on what the line and the frame layer state.
+ghost use mathlib.Core.Path.{_≡_};
+ghost use Prim.Native.Nat.{_+_, _*_};
+ghost use Rattle.frame.specs.Frame.{judge};
+ghost use Rattle.frame.specs.Xor.{xorAll};
+ghost use Rattle.frame.specs.Answers.{Judges};
+use frame::AROUND;
+use frame::HEAD;
+use frame::Judged;
+use frame::Refusal;
+
+// The checks on a packet, in their order.
+pub fn judge(packet: &[u8]) -> Judged
+    ensures { λ r. ⌜ Judges (judge (now (packet .entry))) (now (packet .entry)) r ⌝ }
+{
+    let n = packet.len();
+    if line::LIMIT < n {
+        return Judged::Refused(Refusal::TooLong);
+    }
+    if n < AROUND {
+        return Judged::Refused(Refusal::TooShort);
+    }
+    if packet[0] != 0 {
+        return Judged::Refused(Refusal::WrongProtocol);
+    }
+    if wide(packet[1]) + 2 != n {
+        return Judged::Refused(Refusal::WrongLength);
+    }
+    let last = n - 1;
+    if packet[last] != xor_all(&packet[0..last]) {
+        return Judged::Refused(Refusal::WrongCheck);
+    }
+    Judged::Frame {
+        command: word(packet[2], packet[3]),
+        start: HEAD,
+        len: n - AROUND,
+    }
+}
+
+fn wide(b: u8) -> usize
+    ensures { λ r. ⌜ r ≡ b ⌝ }
+{
+    b as usize
+}
+
+// A number of two bytes, the high one first.
+fn word(high: u8, low: u8) -> u16
+    ensures { λ r. ⌜ r ≡ high * 256 + low ⌝ }
+{
+    (high as u16) * 256 + (low as u16)
+}
+
+// The exclusive or of all bytes.
+pub fn xor_all(bytes: &[u8]) -> u8
+    ensures { λ r. ⌜ r ≡ xorAll (now (bytes .entry)) ⌝ }
+{
+    let mut x = 0;
+    let mut i = 0;
+    while i < bytes.len() {
+        x = x ^ bytes[i];
+        i += 1;
+    }
+    x
+}

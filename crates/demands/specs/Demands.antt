@@ -1,0 +1,304 @@
+-- Demands 1 and 2, and the accident behind them, of any calls of the host and the serial service that keep their promises, in any order and
+-- number, each on what the last one left (Steps). Words in quotes are the papers'. Demand 3 is said so in Demand3.
+use Prim.Native.Nat.{ℕ, _<_}
+use mathlib.Core.Path.{_≡_, refl, sym, ap, ap₂, _∙_}
+use mathlib.Core.List.{List, [], _∷_, _++_, map}
+use mathlib.Core.Bool.{Bool}
+use mathlib.Core.Option.{Option, none, some}
+use native.Mathlib.Omega.{arith}
+use lib.ListN.{length, take, drop, set}
+use lib.Seq.{set-getD}
+use Rattle.line.specs.declared.Reading.{Reading}
+use Rattle.frame.specs.Frame as packet
+use Rattle.frame.specs.Frame.{Outcome}
+use Rattle.frame.specs.Reading.{also, outcomes, final, State, emptied, step, read, taken}
+use Rattle.frame.specs.ReadingLaws.{scan-tells, used-all}
+use Rattle.feeds.specs.System.{Entry, Answer, refused, told, Result, Called, serveIf, settled, decided, call, results, endState, errorReply}
+use Rattle.feeds.specs.Marks.{answersOf, usedOn, toldOn, unmarked}
+use Rattle.feeds.specs.Sent.{Sent, frameOf, sent}
+use Rattle.feeds.specs.Serving.{repliesTold, ServedAll, AllOn, onLine, serveAll, toldAll, servedBy}
+use Rattle.feeds.specs.Service.{Lent, Got, worldOf, lengthOf, recordFor, Feeds, entriesIn, resultsIn, answersIn, usedIn, toldIn}
+use Rattle.feeds.specs.CallLaws.{call-read, read-resets}
+use Rattle.feeds.specs.SystemLaws.{told-outcomes}
+use Rattle.feeds.specs.ServingLaws.{served-in-order}
+use Rattle.feeds.specs.Cutting.{used-same}
+use Rattle.feeds.specs.ServiceLaws as service
+use Rattle.feeds.specs.ServiceLaws.{run-results, run-answers, run-end}
+use Rattle.feeds.specs.Demand3.{Line, recordAt, own-taken, has-line}
+use Rattle.rules.specs.declared.Hub.{Hub}
+use Rattle.rules.specs.Hub.{Started, Enrolled, Closed, Finish, refusedFinish, finishedOn, Finished, lineCount, feedRefusal, Reply, isLoggedIn, hub}
+use Rattle.demands.specs.Calls.{World}
+use Rattle.demands.specs.Steps.{Memory, Step, feed, Return, fed, lineRecord, Made, starts, enrols, closes, finishes, feeds, Steps, stop, next, refusal, finishTells, feedTells, refusalTold, isRefusal, isRefused, roomLent, roomBack, recordLent, recordBack, Unprivileged, loggedByAll, callOf}
+use Rattle.demands.specs.StepsLaws.{made-refusal, steps-after, steps-logged, steps-unprivileged, steps-any}
+use Rattle.rules.specs.Refusals.{start-refused, enrol-refused, close-refused, finish-refused}
+use Rattle.demands.specs.Guard as guard
+use Rattle.demands.specs.Logins.{logged-exactly}
+use Rattle.demands.specs.OneHolder.{OneAtMost, one-holder}
+use Rattle.demands.specs.Feeds.{in-order}
+use Rattle.demands.specs.Demand3.{only-error-reply}
+
+-- ---- Demand 1
+
+-- what a refused call leaves
+pub record Untouched (m : Memory) (s : Step) (o : Return) (v : Memory) : Type 0 where
+  -- it "changes neither the hub", nor the table, nor any line's record as it lies,
+  pub memory : v ≡ m
+  -- "nor lent memory": the record that it was lent, a line's own or not,
+  pub reading : recordBack o ≡ recordLent m s
+  -- and the room
+  pub room : roomBack o ≡ roomLent s
+
+-- a feed "stops after the first outcome, whose END is counted as used, or at the end of the bytes": where it stops
+abbrev pub StopsAt : Lent → Got hub → ℕ → Option Outcome → Type 0
+StopsAt g o u (some y) = taken (o .reading) ≡ emptied
+StopsAt g o u none = u ≡ length (g .bytes)
+
+-- what a feed leaves that tells u bytes used, an outcome or none, and a reply of k bytes, where serving comes to r
+pub record Answered (m : Memory) (g : Lent) (o : Got hub) (v : Memory) (u : ℕ) (y : Option Outcome) (k : ℕ) (r : Reply) : Type 0 where
+  -- the bytes used give this outcome and no other, and lead to the state that the record is taken as
+  pub outcome : outcomes step (taken (recordFor hub m g)) (take u (g .bytes)) ≡ also y []
+  pub state : taken (o .reading) ≡ final step (taken (recordFor hub m g)) (take u (g .bytes))
+  pub stops : StopsAt g o u y
+  -- hub, table and reply are those of r, and bytes behind the reply stay
+  pub hub : v .hub ≡ r .hub
+  pub table : v .table ≡ r .table
+  pub count : k ≡ length (r .reply)
+  pub reply : o .room ≡ r .reply ++ drop k (g .room)
+
+pub record Demand1 : Type 0 where
+  -- "Any bytes, numbers and lent lengths may come.": every list of calls can be made, whatever is kept at its start
+  pub any : (m : Memory) (ss : List Step) → (os : List Return) × (e : Memory) × Steps m ss os e
+  -- a call is refused exactly if a refusal applies to it, with the number of the first that does
+  pub exactly : {m v : Memory} {s : Step} {o : Return} → Made m s o v → refusalTold o ≡ refusal m s
+  -- "A refused call changes neither the hub nor lent memory;"
+  pub untouched : {m v : Memory} {s : Step} {o : Return} → Made m s o v → (n : ℕ) → refusalTold o ≡ some n → Untouched m s o v
+  -- so a list without its refused calls is made as well: every other gives the same, and the end is the same
+  pub without : {m e : Memory} {ss : List Step} {os : List Return} → Steps m ss os e
+      → Steps m (unmarked (map isRefused os) ss) (unmarked (map isRefused os) os) e
+  -- "a refused packet is used up and brings one error reply only."
+  pub used-up : {m v : Memory} {g : Lent} {o : Got hub} → Made m (feed g) (fed o) v → (u n k : ℕ) → o .answer ≡ told u (some (packet.refused n)) k
+      → Answered m g o v u (some (packet.refused n)) k (record { hub = m .hub; table = m .table; reply = errorReply })
+
+-- ---- Demand 2
+
+-- what stays
+pub record Unchanged (m e : Memory) : Type 0 where
+  pub table : e .table ≡ m .table
+  pub password : e .hub .password ≡ m .hub .password
+  pub sessions : e .hub .slots ≡ m .hub .slots
+
+-- hub and table at the end of a list of feeds, and the replies that went with outcomes
+abbrev pub servedIn : Feeds hub → ServedAll hub
+servedIn F = record { hub = F .end .hub; table = F .end .table; replies = repliesTold (resultsIn F) }
+
+-- outcomes served one by one from its start, each on the hub and the table that the one before left
+abbrev pub servedFrom : Feeds hub → List (ℕ × Outcome) → ServedAll hub
+servedFrom F = serveAll hub (F .start .hub) (F .start .table)
+
+-- what is the same of two lists of feeds: outcomes on line l, replies, and the end, records as taken
+pub record Same (l : ℕ) (F G : Feeds hub) : Type 0 where
+  pub told : toldIn l F ≡ toldIn l G
+  pub replies : repliesTold (resultsIn F) ≡ repliesTold (resultsIn G)
+  pub end : worldOf (F .end) ≡ worldOf (G .end)
+
+pub record Demand2 : Type 0 where
+  -- "Tables change only by our host or by a line that gave the password,"
+  pub guarded : {m e : Memory} {ss : List Step} {os : List Return} (x : Steps m ss os e) → Unprivileged x → Unchanged m e
+  -- a line is logged in exactly if it gave the right password after its last close or start, or was so at the beginning and neither came;
+  -- a hub has four logins
+  pub logged : {m e : Memory} {ss : List Step} {os : List Return} (x : Steps m ss os e) (l : ℕ) → length (m .hub .logins) ≡ lineCount → l < lineCount
+      → isLoggedIn (e .hub) l ≡ loggedByAll l (isLoggedIn (m .hub) l) x
+  -- "and each served command has the stated effect and reply": each feed's outcome is served, and nothing where there is none,
+  pub served : {m v : Memory} {g : Lent} {o : Got hub} → Made m (feed g) (fed o) v → (u : ℕ) (y : Option Outcome) (k : ℕ) → o .answer ≡ told u y k
+      → Answered m g o v u y k (serveIf hub (m .hub) (m .table) (g .line) y)
+  -- the outcomes of a line are those of the bytes used on it, begun in the state of its record, whatever the other lines send,
+  pub told : (l : ℕ) (F : Feeds hub) → Line l F → toldIn l F ≡ outcomes step (taken (recordAt l F)) (usedIn l F)
+  -- those of all lines are served one by one in order,
+  pub in-order : (F : Feeds hub) → servedIn F ≡ servedFrom F (toldAll (entriesIn F) (answersIn F))
+  -- and so are well-formed frames that are fed to a line between packets
+  pub frames : (l : ℕ) (F : Feeds hub) → Line l F → AllOn l (entriesIn F) → taken (recordAt l F) ≡ emptied
+      → (frames : List Sent) → usedIn l F ≡ sent frames → servedIn F ≡ servedFrom F (onLine l (map frameOf frames))
+  -- "Cutting the input into calls anywhere changes no outcome and no end state": the same bytes used on a line, refused feeds included
+  pub cut : (l : ℕ) (F G : Feeds hub) → Line l F → AllOn l (entriesIn F) → AllOn l (entriesIn G) → worldOf (G .start) ≡ worldOf (F .start)
+      → usedIn l F ≡ usedIn l G → Same l F G
+
+-- ---- The accident
+
+pub record OneHolder : Type 0 where
+  -- "its tables let two commands hold the same motor": a node that is in one open session at the most stays so
+  pub one : {m e : Memory} {ss : List Step} {os : List Return} → Steps m ss os e → (n : ℕ) → OneAtMost n (m .hub) → OneAtMost n (e .hub)
+
+-- ---- The proofs
+
+-- a refusal told is that of the answer
+finish-told : (a : Finish) (n : ℕ) → finishTells a ≡ some n → a ≡ refusedFinish n
+unfolding finishTells
+finish-told (refusedFinish k) n e = let z : k ≡ n = cc in ap refusedFinish z
+finish-told (finishedOn l k) n e = let z : _≡_ {A = ℕ} 0 1 = cc in absurd (omega arith)
+
+feed-told : (a : Answer) (n : ℕ) → feedTells a ≡ some n → a ≡ refused n
+unfolding feedTells
+feed-told (refused k) n e = let z : k ≡ n = cc in ap refused z
+feed-told (told u o k) n e = let z : _≡_ {A = ℕ} 0 1 = cc in absurd (omega arith)
+
+-- equal parts make equal memories
+same-memory : {h k : Hub} {t q : List ℕ} {rs vs : List Reading} → h ≡ k → t ≡ q → rs ≡ vs
+    → _≡_ {A = Memory} (record { hub = h; table = t; records = rs }) (record { hub = k; table = q; records = vs })
+same-memory a b c = rw (a, b, c)
+
+-- each refused call, by the law of its definition
+made-untouched : {m v : Memory} {s : Step} {o : Return} → Made m s o v → (n : ℕ) → refusalTold o ≡ some n → Untouched m s o v
+unfolding refusalTold roomLent roomBack recordLent recordBack
+made-untouched (starts {m} {p} x) n e =
+    let q = x ∙ start-refused (m .hub) (m .table) p n (ap (λ (z : Started). z .refusal) (sym x) ∙ e) in
+    record { memory = ap (λ (z : Started). record { hub = z .hub; table = z .table; records = m .records }) q; reading = refl; room = refl }
+made-untouched (enrols {m} {n = k} {type} x) n e =
+    let q = x ∙ enrol-refused (m .table) k type n (ap (λ (z : Enrolled). z .refusal) (sym x) ∙ e) in
+    record { memory = ap (λ (z : Enrolled). record { hub = m .hub; table = z .table; records = m .records }) q; reading = refl; room = refl }
+made-untouched (closes {m} {l} {spare} {o} x) n e =
+    let q = close-refused (m .hub) (taken (lineRecord m l spare)) l n (sym (x .refusal) ∙ e) in
+    let kept : o .reading ≡ lineRecord m l spare = x .kept n e in
+    record {
+      memory = same-memory (x .hub ∙ ap (λ (z : Closed). z .hub) q) refl (ap (set (m .records) l) kept ∙ set-getD (m .records) l spare);
+      reading = ap some kept;
+      room = refl;
+    }
+made-untouched (finishes {m} {x} {room} {o} y) n e =
+    let q = finish-refused (m .hub) x (length room) n (sym (y .answer) ∙ finish-told (o .answer) n e) in
+    record {
+      memory = same-memory (y .hub ∙ ap (λ (z : Finished). z .hub) q) refl refl;
+      reading = refl;
+      room = ap some (y .room ∙ ap (λ (z : Finished). z .reply ++ drop (length (z .reply)) room) q);
+    }
+made-untouched (feeds {m} {g} {o} x) n e =
+    let (h, t, r, room) = service.refused-untouched x n (feed-told (o .answer) n e) in
+    record { memory = same-memory h t (ap (set (m .records) (g .line)) r ∙ set-getD (m .records) (g .line) (g .spare)); reading = ap some r; room = ap some room }
+
+-- a refused call can be left out
+steps-without : {m e : Memory} {ss : List Step} {os : List Return} → Steps m ss os e → Steps m (unmarked (map isRefused os) ss) (unmarked (map isRefused os) os) e
+unfolding unmarked isRefusal
+steps-without stop = stop
+steps-without (next {m} {v} {e} {s} {ss} {o} {os} x rest) = go (refusalTold o) refl (steps-without rest)
+  where
+    R : List Bool
+    R = map isRefused os
+
+    go : (r : Option ℕ) → refusalTold o ≡ r → Steps v (unmarked R ss) (unmarked R os) e
+        → Steps m (unmarked (isRefusal r ∷ R) (s ∷ ss)) (unmarked (isRefusal r ∷ R) (o ∷ os)) e
+    go none p y = next x y
+    go (some n) p y = rw (← made-untouched x n p .memory) y
+
+-- a call that is not refused read what it tells
+call-told : (h : Hub) (t : List ℕ) (s : State) (l : ℕ) (bytes : List ℕ) (room u : ℕ) (y : Option Outcome) (k : ℕ) → call hub h t s l bytes room .result .answer ≡ told u y k
+    → (feedRefusal t l room ≡ none) × (read s bytes .used ≡ u) × (read s bytes .outcome ≡ y)
+unfolding call decided settled
+call-told h t s l bytes room u y k = go (feedRefusal t l room)
+  where
+    go : (r : Option ℕ) → decided hub h t l s (read s bytes) r .result .answer ≡ told u y k → (r ≡ none) × (read s bytes .used ≡ u) × (read s bytes .outcome ≡ y)
+    go none e = (refl, cc, cc)
+    go (some n) e = let z : _≡_ {A = ℕ} 0 1 = cc in absurd (omega arith)
+
+-- where it stops
+read-stops : (g : Lent) (o : Got hub) (s : State) (u : ℕ) (y : Option Outcome) → read s (g .bytes) .used ≡ u → read s (g .bytes) .outcome ≡ y
+    → taken (o .reading) ≡ read s (g .bytes) .after → StopsAt g o u y
+read-stops g o s u none used outcome state = sym used ∙ used-all step s (g .bytes) outcome
+read-stops g o s u (some y) used outcome state = state ∙ read-resets s (g .bytes) y outcome
+
+-- what it tells is served
+made-served : {m v : Memory} {g : Lent} {o : Got hub} → Made m (feed g) (fed o) v → (u : ℕ) (y : Option Outcome) (k : ℕ) → o .answer ≡ told u y k
+    → Answered m g o v u y k (serveIf hub (m .hub) (m .table) (g .line) y)
+unfolding settled lengthOf
+made-served (feeds {m} {g} {o} x) u y k e =
+    let s : State = taken (recordFor hub m g) in
+    let r : Reply = serveIf hub (m .hub) (m .table) (g .line) y in
+    let (p, used, outcome) = call-told (m .hub) (m .table) s (g .line) (g .bytes) (length (g .room)) u y k (sym (x .answer) ∙ e) in
+    let q = call-read hub (m .hub) (m .table) s (g .line) (g .bytes) (length (g .room)) p in
+    let c = q ∙ ap (λ (z : Option Outcome). settled hub (read s (g .bytes)) (serveIf hub (m .hub) (m .table) (g .line) z)) outcome in
+    let state : taken (o .reading) ≡ read s (g .bytes) .after = x .state ∙ ap (λ (z : Called hub). z .state) c in
+    let count : k ≡ length (r .reply) = ap lengthOf (sym e ∙ x .answer) ∙ ap (λ (z : Called hub). lengthOf (z .result .answer)) c in
+    let tells = scan-tells step s (g .bytes) in
+    record {
+      outcome = ap (λ (z : ℕ). outcomes step s (take z (g .bytes))) (sym used) ∙ tells .outcome ∙ ap (λ (z : Option Outcome). also z []) outcome;
+      state = state ∙ sym (tells .after) ∙ ap (λ (z : ℕ). final step s (take z (g .bytes))) used;
+      stops = read-stops g o s u y used outcome state;
+      hub = x .hub ∙ ap (λ (z : Called hub). z .hub) c;
+      table = x .table ∙ ap (λ (z : Called hub). z .table) c;
+      count = count;
+      reply = x .room ∙ ap (λ (z : Called hub). z .result .reply ++ drop (length (z .result .reply)) (g .room)) c ∙ ap (λ (z : ℕ). r .reply ++ drop z (g .room)) (sym count);
+    }
+
+-- and a refused packet by the error reply only
+made-used-up : {m v : Memory} {g : Lent} {o : Got hub} → Made m (feed g) (fed o) v → (u n k : ℕ) → o .answer ≡ told u (some (packet.refused n)) k
+    → Answered m g o v u (some (packet.refused n)) k (record { hub = m .hub; table = m .table; reply = errorReply })
+unfolding serveIf
+made-used-up {m} {g = g} x u n k e = rw (only-error-reply (m .hub) (m .table) (g .line) n) at (made-served x u (some (packet.refused n)) k e)
+
+pub demand-1 : Demand1
+demand-1 = record { any = steps-any; exactly = made-refusal; untouched = made-untouched; without = steps-without; used-up = made-used-up }
+
+-- carried over from the definitions
+steps-guarded : {m e : Memory} {ss : List Step} {os : List Return} (x : Steps m ss os e) → Unprivileged x → Unchanged m e
+unfolding worldOf
+steps-guarded {m} {ss = ss} x u =
+    let g = guard.unprivileged-unchanged (worldOf m) (map callOf ss) (steps-unprivileged x u) in
+    let a = steps-after x in
+    record {
+      table = ap (λ (w : World). w .table) a ∙ g .table;
+      password = ap (λ (w : World). w .hub .password) a ∙ g .password;
+      sessions = ap (λ (w : World). w .hub .slots) a ∙ g .sessions;
+    }
+
+steps-login : {m e : Memory} {ss : List Step} {os : List Return} (x : Steps m ss os e) (l : ℕ) → length (m .hub .logins) ≡ lineCount → l < lineCount
+    → isLoggedIn (e .hub) l ≡ loggedByAll l (isLoggedIn (m .hub) l) x
+unfolding worldOf
+steps-login {m} {ss = ss} x l four h =
+    ap (λ (w : World). isLoggedIn (w .hub) l) (steps-after x) ∙ logged-exactly l (worldOf m) (map callOf ss) four h ∙ sym (steps-logged l (isLoggedIn (m .hub) l) x)
+
+-- a list of feeds serves what the definition's serves
+run-served : (F : Feeds hub) → servedIn F ≡ servedBy hub (worldOf (F .start)) (entriesIn F)
+unfolding worldOf
+run-served F = ap₂ (λ (w : World) (rs : List Result). record { hub = w .hub; table = w .table; replies = repliesTold rs }) (run-end F) (run-results F)
+
+run-in-order : (F : Feeds hub) → servedIn F ≡ servedFrom F (toldAll (entriesIn F) (answersIn F))
+unfolding worldOf
+run-in-order F =
+    run-served F ∙ served-in-order hub (entriesIn F) (worldOf (F .start)) ∙ ap (λ (z : List Answer). servedFrom F (toldAll (entriesIn F) z)) (sym (run-answers F))
+
+run-told : (l : ℕ) (F : Feeds hub) → Line l F → toldIn l F ≡ outcomes step (taken (recordAt l F)) (usedIn l F)
+run-told l F line =
+    let w : World = worldOf (F .start) in
+    let es : List Entry = entriesIn F in
+    let A : answersIn F ≡ answersOf hub w es = run-answers F in
+    ap (toldOn l es) A ∙ told-outcomes hub l es w (has-line l F line) ∙ ap₂ (outcomes step) (own-taken l F) (ap (usedOn l es) (sym A))
+
+run-frames : (l : ℕ) (F : Feeds hub) → Line l F → AllOn l (entriesIn F) → taken (recordAt l F) ≡ emptied
+    → (frames : List Sent) → usedIn l F ≡ sent frames → servedIn F ≡ servedFrom F (onLine l (map frameOf frames))
+unfolding worldOf
+run-frames l F line x between frames u =
+    run-served F
+    ∙ in-order (worldOf (F .start)) l (entriesIn F) x (has-line l F line) (own-taken l F ∙ between) frames (ap (usedOn l (entriesIn F)) (sym (run-answers F)) ∙ u)
+
+-- the same bytes used come to the same
+run-cut : (l : ℕ) (F G : Feeds hub) → Line l F → AllOn l (entriesIn F) → AllOn l (entriesIn G) → worldOf (G .start) ≡ worldOf (F .start) → usedIn l F ≡ usedIn l G → Same l F G
+run-cut l F G line x y start u =
+    let w : World = worldOf (F .start) in
+    let es : List Entry = entriesIn F in
+    let fs : List Entry = entriesIn G in
+    let A : answersIn F ≡ answersOf hub w es = run-answers F in
+    let B : answersIn G ≡ answersOf hub w fs = run-answers G ∙ ap (λ (z : World). answersOf hub z fs) start in
+    let s = used-same hub l w (has-line l F line) es fs x y (ap (usedOn l es) (sym A) ∙ u ∙ ap (usedOn l fs) B) in
+    record {
+      told = ap (toldOn l es) A ∙ s .told ∙ ap (toldOn l fs) (sym B);
+      replies = ap repliesTold (run-results F) ∙ s .replies ∙ ap (λ (z : World). repliesTold (results hub z fs)) (sym start) ∙ ap repliesTold (sym (run-results G));
+      end = run-end F ∙ s .end ∙ ap (λ (z : World). endState hub z fs) (sym start) ∙ sym (run-end G);
+    }
+
+pub demand-2 : Demand2
+demand-2 = record { guarded = steps-guarded; logged = steps-login; served = made-served; told = run-told; in-order = run-in-order; frames = run-frames; cut = run-cut }
+
+steps-one : {m e : Memory} {ss : List Step} {os : List Return} → Steps m ss os e → (n : ℕ) → OneAtMost n (m .hub) → OneAtMost n (e .hub)
+unfolding worldOf
+steps-one {m} {e} {ss} x n p = rw (← ap (λ (w : World). w .hub) (steps-after x)) at (one-holder n (worldOf m) (map callOf ss) p)
+
+pub no-two-holders : OneHolder
+no-two-holders = record { one = steps-one }

@@ -1,0 +1,76 @@
+-- Demand 2, over the definitions: an outcome on a line that is not logged in leaves table, password and sessions, and logs it in only by
+-- the right password.
+use Prim.Native.Nat.{ℕ}
+use mathlib.Core.Path.{_≡_, refl, _∙_}
+use mathlib.Core.List.{List, [], _∷_}
+use mathlib.Core.Bool.{Bool, true, false, cond}
+use mathlib.Core.Option.{none, some}
+use lib.ListN.{length}
+use lib.Dec.{eqb}
+use Rattle.frame.specs.Frame.{Outcome, frame, refused}
+use Rattle.directory.specs.Lookup as directory
+use Rattle.feeds.specs.System as feeds
+use Rattle.feeds.specs.SystemLaws.{Fed, barred, done, fed}
+use Rattle.rules.specs.declared.Hub.{Hub}
+use Rattle.demands.specs.Calls.{World, Call, start, enrol, close, finish, feed, after, afterAll, Unprivileged}
+use Rattle.rules.specs.Hub.{Reply, failure, unknownCommand, frameError, notLoggedIn, Password, same, enter, reply, request, isLoggedIn, serve, hub}
+use Rattle.rules.specs.Cases.{either, each-verdict}
+
+-- what an outcome on a line that is not logged in leaves
+pub record Guarded (h : Hub) (t : List ℕ) (r : Reply) : Type 0 where
+  pub table : r .table ≡ t
+  pub password : r .hub .password ≡ h .password
+  pub sessions : r .hub .slots ≡ h .slots
+
+failure-guarded : (h : Hub) (t : List ℕ) (e : ℕ) → Guarded h t (failure h t e)
+failure-guarded h t e = record { table = refl; password = refl; sessions = refl }
+
+-- password enter changes a login at the most
+enter-guarded : (h : Hub) (t : List ℕ) (l : ℕ) (d : List ℕ) → Guarded h t (reply (enter h l d .hub) t 0x3001 (enter h l d .status ∷ []))
+unfolding enter
+enter-guarded h t l d =
+    either (λ (p : Password). Guarded h t (reply (p .hub) t 0x3001 (p .status ∷ []))) (same d (h .password)) _ _
+    (record { table = refl; password = refl; sessions = refl }) (record { table = refl; password = refl; sessions = refl })
+
+pub serve-guarded : (h : Hub) (t : List ℕ) (l : ℕ) (o : Outcome) → isLoggedIn h l ≡ false → Guarded h t (serve h t l o)
+unfolding serve request
+serve-guarded h t l (refused n) e = failure-guarded h t frameError
+serve-guarded h t l (frame c d) e =
+    each-verdict (Guarded h t) (directory.verdict c (length d)) _ _ _ (failure-guarded h t unknownCommand) (failure-guarded h t frameError)
+    (rw e (go (eqb c 0x3000) refl))
+  where
+    go : (b : Bool) → eqb c 0x3000 ≡ b → Guarded h t (cond b (request h t l c d) (failure h t notLoggedIn))
+    go true x = rw x (enter-guarded h t l d)
+    go false x = failure-guarded h t notLoggedIn
+
+-- ---- feeds
+
+-- what is the same before and after
+pub record Unchanged (w v : World) : Type 0 where
+  pub table : v .table ≡ w .table
+  pub password : v .hub .password ≡ w .hub .password
+  pub sessions : v .hub .slots ≡ w .hub .slots
+
+feed-unchanged : (w : World) (e : feeds.Entry) → isLoggedIn (w .hub) (e .line) ≡ false → Unchanged w (feeds.feed hub w e .0)
+unfolding feeds.settled feeds.serveIf feeds.returned
+feed-unchanged w e p = go (fed hub w e)
+  where
+    go : {x : World × feeds.Result} → Fed hub w e x → Unchanged w (x .0)
+    go (barred n) = record { table = refl; password = refl; sessions = refl }
+    go (done u s none q) = record { table = refl; password = refl; sessions = refl }
+    go (done u s (some o) q) =
+        let g = serve-guarded (w .hub) (w .table) (e .line) o p in
+        record { table = g .table; password = g .password; sessions = g .sessions }
+
+-- the theorem: without the host and without a line that is logged in, table, password and sessions stay as they are
+pub unprivileged-unchanged : (w : World) (cs : List Call) → Unprivileged w cs → Unchanged w (afterAll w cs)
+unfolding after afterAll
+unprivileged-unchanged w [] x = record { table = refl; password = refl; sessions = refl }
+unprivileged-unchanged w (start p ∷ cs) x = absurd x
+unprivileged-unchanged w (enrol n type ∷ cs) x = absurd x
+unprivileged-unchanged w (close l spare ∷ cs) x = absurd x
+unprivileged-unchanged w (finish y room ∷ cs) x = absurd x
+unprivileged-unchanged w (feed e ∷ cs) x =
+    let a = feed-unchanged w e (x .0) in
+    let b = unprivileged-unchanged (after w (feed e)) cs (x .1) in
+    record { table = b .table ∙ a .table; password = b .password ∙ a .password; sessions = b .sessions ∙ a .sessions }

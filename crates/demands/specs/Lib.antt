@@ -1,0 +1,10 @@
+pub mod Calls
+pub mod Guard
+pub mod Steps
+pub mod StepsLaws
+pub mod Logins
+pub mod Demand3
+pub mod Feeds
+pub mod Demand3Example
+pub mod OneHolder
+pub mod Demands

@@ -1,0 +1,196 @@
+-- Demand 2, over whole lists of calls: a line is logged in exactly if it gave the right password after the last start and the last close
+-- of that line, or was logged in before the list and neither came.
+use Prim.Native.Nat.{ℕ, _<_}
+use mathlib.Core.Path.{_≡_, refl, sym, ap, _∙_}
+use mathlib.Core.List.{List, [], _∷_}
+use mathlib.Core.Bool.{Bool, true, false, cond, not, _&&_, _||_}
+use mathlib.Core.Option.{Option, none, some}
+use native.Mathlib.Omega.{arith}
+use lib.ListN.{length, take, set, getD, length-set, getD-replicate}
+use lib.Seq.{getD-set-same, getD-set-other}
+use lib.Dec.{leb, ltb, eqb}
+use borrow.Author.Tests.{eqb-true, eqb-false, ne-eqb, ltb-false, leb-true, le-leb}
+use Rattle.frame.specs.Frame.{Outcome, frame, refused}
+use Rattle.frame.specs.Writing.{minRoom}
+use Rattle.nodes.specs.Table as table
+use Rattle.sessions.specs.Sessions as sessions
+use Rattle.directory.specs.declared.Verdict.the-variants as verdicts
+use Rattle.directory.specs.Directory.{directory}
+use Rattle.directory.specs.Lookup as lookup
+use Rattle.feeds.specs.System as feeds
+use Rattle.feeds.specs.Marks.{outcomeOf}
+use Rattle.feeds.specs.SystemLaws.{Fed, barred, done, fed}
+use Rattle.rules.specs.declared.Hub.{Hub}
+use Rattle.rules.specs.Hub as rules
+use Rattle.rules.specs.Cases.{either, each-verdict}
+use Rattle.demands.specs.Calls.{World, Call, start, enrol, close, finish, feed, after, afterAll, isPassword, unlessRefused, loggedBy, loggedByAll}
+
+-- ---- serving an outcome
+
+abbrev Kept : Hub → rules.Reply → Type 0
+Kept h r = r .hub .logins ≡ h .logins
+
+change-kept : (h : Hub) (old new : List ℕ) → rules.change h old new .hub .logins ≡ h .logins
+unfolding rules.change
+change-kept h old new = either (λ (p : rules.Password). p .hub .logins ≡ h .logins) (rules.same old (h .password)) _ _ refl refl
+
+-- every request but password enter leaves the logins
+request-kept : (h : Hub) (t : List ℕ) (l c : ℕ) (d : List ℕ) → eqb c 0x3000 ≡ false → Kept h (rules.request h t l c d)
+unfolding rules.request rules.getNode rules.removeNodes rules.virginState rules.modeSend
+request-kept h t l c d e =
+    rw e
+    (either (Kept h) (eqb c 0x3002) _ _ (change-kept h _ _)
+    (either (Kept h) (eqb c 0x0200) _ _ (either (Kept h) (table.inUse t (getD d 0 0)) _ _ refl refl)
+    (either (Kept h) (eqb c 0x0206) _ _ refl
+    (either (Kept h) (eqb c 0x0208) _ _ refl
+    (either (Kept h) (eqb c 0x020D) _ _ refl
+    (either (Kept h) (eqb c 0x0106) _ _ refl
+    (either (Kept h) (eqb c 0x0108) _ _ refl
+    (either (Kept h) (eqb c 0x0320) _ _ refl refl))))))))
+
+-- password enter is known with 32 data bytes
+enter-verdict : (n : ℕ) → lookup.verdict 0x3000 n ≡ cond (leb 32 n && leb n 32) verdicts.Fits verdicts.WrongLength
+unfolding lookup.verdict lookup.find lookup.verdictOf directory
+enter-verdict n = refl
+
+-- a length that is not 32 is out of that range
+out-of-range : (n : ℕ) → eqb n 32 ≡ false → (leb 32 n && leb n 32) ≡ false
+out-of-range n e = go (leb 32 n) (leb n 32) refl refl
+  where
+    go : (a b : Bool) → leb 32 n ≡ a → leb n 32 ≡ b → (a && b) ≡ false
+    go true true x y = absurd (eqb-false n 32 e (omega (arith, leb-true 32 n x, leb-true n 32 y)))
+    go true false x y = refl
+    go false b x y = refl
+
+-- password enter logs its line in exactly by the right password
+enter-logins : (h : Hub) (t : List ℕ) (l : ℕ) (d : List ℕ) → rules.serve h t l (frame 0x3000 d) .hub .logins
+    ≡ cond (eqb (length d) rules.passwordSize && rules.same d (h .password)) (set (h .logins) l true) (h .logins)
+unfolding rules.serve rules.request rules.enter
+enter-logins h t l d = rw (enter-verdict (length d)) (go (eqb (length d) 32) refl (rules.isLoggedIn h l) (rules.same d (h .password)))
+  where
+    entered : Bool → rules.Password
+    entered s =
+        cond s (record { status = rules.correct; hub = record { password = h .password; logins = set (h .logins) l true; slots = h .slots } })
+        (record { status = rules.incorrect; hub = h })
+
+    fits : (i s : Bool)
+        → cond (i || true) (rules.reply (entered s .hub) t 0x3001 (entered s .status ∷ [])) (rules.failure h t rules.notLoggedIn) .hub .logins
+        ≡ cond s (set (h .logins) l true) (h .logins)
+    fits true true = refl
+    fits true false = refl
+    fits false true = refl
+    fits false false = refl
+
+    go : (b : Bool) → eqb (length d) 32 ≡ b → (i s : Bool)
+        → rules.byVerdict (cond (leb 32 (length d) && leb (length d) 32) verdicts.Fits verdicts.WrongLength) (rules.failure h t rules.unknownCommand) (rules.failure h t rules.frameError)
+        (cond (i || true) (rules.reply (entered s .hub) t 0x3001 (entered s .status ∷ [])) (rules.failure h t rules.notLoggedIn)) .hub .logins
+        ≡ cond (b && s) (set (h .logins) l true) (h .logins)
+    go true e i s =
+        let n : length d ≡ 32 = eqb-true (length d) 32 e in
+        rw (le-leb 32 (length d) (omega arith), le-leb (length d) 32 (omega arith)) (fits i s)
+    go false e i s = rw (out-of-range (length d) e)
+
+pub serve-logins : (h : Hub) (t : List ℕ) (l : ℕ) (o : Outcome)
+    → rules.serve h t l o .hub .logins ≡ cond (isPassword h (some o)) (set (h .logins) l true) (h .logins)
+unfolding isPassword rules.serve
+serve-logins h t l (refused n) = refl
+serve-logins h t l (frame c d) = go (eqb c 0x3000) refl
+  where
+    go : (b : Bool) → eqb c 0x3000 ≡ b
+        → rules.serve h t l (frame c d) .hub .logins ≡ cond (b && (eqb (length d) rules.passwordSize && rules.same d (h .password))) (set (h .logins) l true) (h .logins)
+    go true e = rw (eqb-true c 0x3000 e) (enter-logins h t l d)
+    go false e = each-verdict (Kept h) (lookup.verdict c (length d)) _ _ _ refl refl (either (Kept h) (rules.mayAsk (h .logins) l c) _ _ (request-kept h t l c d e) refl)
+
+-- ---- one feed
+
+feed-logins : (w : World) (e : feeds.Entry)
+    → feeds.feed rules.hub w e .0 .hub .logins
+    ≡ cond (isPassword (w .hub) (outcomeOf (feeds.feed rules.hub w e .1 .answer))) (set (w .hub .logins) (e .line) true) (w .hub .logins)
+unfolding feeds.settled feeds.serveIf feeds.returned isPassword outcomeOf
+feed-logins w e = go (fed rules.hub w e)
+  where
+    go : {x : World × feeds.Result} → Fed rules.hub w e x
+        → x .0 .hub .logins ≡ cond (isPassword (w .hub) (outcomeOf (x .1 .answer))) (set (w .hub .logins) (e .line) true) (w .hub .logins)
+    go (barred n) = refl
+    go (done u s none q) = refl
+    go (done u s (some o) q) = serve-logins (w .hub) (w .table) (e .line) o
+
+-- ---- one call
+
+set-logged : (ls : List Bool) (k l : ℕ) (v : Bool) → l < length ls → getD (set ls k v) l false ≡ cond (eqb k l) v (getD ls l false)
+set-logged ls k l v h = go (eqb k l) refl
+  where
+    go : (b : Bool) → eqb k l ≡ b → getD (set ls k v) l false ≡ cond b v (getD ls l false)
+    go true e = ap (λ (n : ℕ). getD (set ls n v) l false) (eqb-true k l e) ∙ getD-set-same ls l v false h
+    go false e = getD-set-other ls k l v false (λ x. eqb-false k l e (sym x))
+
+-- there are four lines
+abbrev Four : World → Type 0
+Four w = length (w .hub .logins) ≡ rules.lineCount
+
+call-logged : (l : ℕ) (w : World) (c : Call) → Four w → l < rules.lineCount
+    → rules.isLoggedIn (after w c .hub) l ≡ loggedBy l (rules.isLoggedIn (w .hub) l) w c
+unfolding after loggedBy
+call-logged l w (start p) four h = go (rules.startRefusal (w .table) p)
+  where
+    go : (o : Option ℕ) → rules.isLoggedIn (rules.startBy o (w .hub) (w .table) p .hub) l ≡ unlessRefused o (rules.isLoggedIn (w .hub) l)
+    go none = getD-replicate rules.lineCount l false false h
+    go (some n) = refl
+call-logged l w (enrol n type) four h = refl
+call-logged l w (close k spare) four h = go (ltb k rules.lineCount) refl
+  where
+    go : (b : Bool) → ltb k rules.lineCount ≡ b
+        → rules.isLoggedIn (rules.closeBy (rules.refuseIf (not b) rules.wrongLine none) (w .hub) (getD (w .states) k spare) k .hub) l
+        ≡ cond (eqb k l) false (rules.isLoggedIn (w .hub) l)
+    go true e = set-logged (w .hub .logins) k l false (omega arith)
+    go false e = rw (ne-eqb k l (λ x. omega (arith, ltb-false k rules.lineCount e)))
+call-logged l w (finish x room) four h = go (ltb room minRoom) (sessions.finish (w .hub .slots) x)
+  where
+    go : (b : Bool) (o : Option sessions.Finished) → rules.isLoggedIn (rules.finishBy b o (w .hub) x .hub) l ≡ rules.isLoggedIn (w .hub) l
+    go true o = refl
+    go false none = refl
+    go false (some f) = refl
+call-logged l w (feed e) four h =
+    ap (λ (ls : List Bool). getD ls l false) (feed-logins w e)
+    ∙ go (isPassword (w .hub) (outcomeOf (feeds.feed rules.hub w e .1 .answer))) (eqb (e .line) l) (set-logged (w .hub .logins) (e .line) l true (omega arith))
+  where
+    go : (p q : Bool) → getD (set (w .hub .logins) (e .line) true) l false ≡ cond q true (rules.isLoggedIn (w .hub) l)
+        → getD (cond p (set (w .hub .logins) (e .line) true) (w .hub .logins)) l false ≡ cond (q && p) true (rules.isLoggedIn (w .hub) l)
+    go true true x = x
+    go true false x = x
+    go false true x = refl
+    go false false x = refl
+
+call-four : (w : World) (c : Call) → Four w → Four (after w c)
+unfolding after
+call-four w (start p) four = go (rules.startRefusal (w .table) p)
+  where
+    go : (o : Option ℕ) → length (rules.startBy o (w .hub) (w .table) p .hub .logins) ≡ rules.lineCount
+    go none = refl
+    go (some n) = four
+call-four w (enrol n type) four = four
+call-four w (close k spare) four = go (rules.closeRefusal k)
+  where
+    go : (o : Option ℕ) → length (rules.closeBy o (w .hub) (getD (w .states) k spare) k .hub .logins) ≡ rules.lineCount
+    go none = length-set (w .hub .logins) k false ∙ four
+    go (some n) = four
+call-four w (finish x room) four = go (ltb room minRoom) (sessions.finish (w .hub .slots) x)
+  where
+    go : (b : Bool) (o : Option sessions.Finished) → length (rules.finishBy b o (w .hub) x .hub .logins) ≡ rules.lineCount
+    go true o = four
+    go false none = four
+    go false (some f) = four
+call-four w (feed e) four = ap length (feed-logins w e) ∙ go (isPassword (w .hub) (outcomeOf (feeds.feed rules.hub w e .1 .answer)))
+  where
+    go : (p : Bool) → length (cond p (set (w .hub .logins) (e .line) true) (w .hub .logins)) ≡ rules.lineCount
+    go true = length-set (w .hub .logins) (e .line) true ∙ four
+    go false = four
+
+-- ---- the theorem
+
+pub logged-exactly : (l : ℕ) (w : World) (cs : List Call) → Four w → l < rules.lineCount
+    → rules.isLoggedIn (afterAll w cs .hub) l ≡ loggedByAll l (rules.isLoggedIn (w .hub) l) w cs
+unfolding afterAll loggedByAll
+logged-exactly l w [] four h = refl
+logged-exactly l w (c ∷ cs) four h =
+    logged-exactly l (after w c) cs (call-four w c four) h ∙ ap (λ (b : Bool). loggedByAll l b (after w c) cs) (call-logged l w c four h)

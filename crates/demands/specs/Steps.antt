@@ -1,0 +1,173 @@
+-- Calls as the host and the serial service make them, one after another: each keeps its promise, and each gets the hub, the one table and its
+-- line's own record as the last one left them.
+use Prim.Native.Nat.{ℕ}
+use mathlib.Core.Path.{_≡_}
+use mathlib.Core.List.{List, [], _∷_}
+use mathlib.Core.Bool.{Bool, true, false, cond, not, _&&_}
+use mathlib.Core.Option.{Option, none, some}
+use lib.ListN.{length, getD, set}
+use lib.Dec.{ltb, eqb}
+use Rattle.line.specs.declared.Reading.{Reading}
+use Rattle.frame.specs.Reading.{taken}
+use Rattle.frame.specs.Writing.{minRoom}
+use Rattle.sessions.specs.Search.{any}
+use Rattle.sessions.specs.Sessions.{isNumbered}
+use Rattle.feeds.specs.System as system
+use Rattle.feeds.specs.Marks.{outcomeOf}
+use Rattle.feeds.specs.Service as service
+use Rattle.feeds.specs.Service.{Lent, Got, entryOf, Promise, recordFor, leftBy}
+use Rattle.rules.specs.Hub as rules
+use Rattle.rules.specs.Hub.{Started, Enrolled, Finish, refusedFinish, finishedOn, isLoggedIn, hub}
+use Rattle.rules.specs.Promises.{Starts, Enrols, ClosedLine, Closes, FinishedSession, Finishes}
+use Rattle.demands.specs.Calls as calls
+use Rattle.demands.specs.Calls.{isPassword, unlessRefused}
+
+-- what is kept between calls: hub, table and the lines' records
+abbrev pub Memory : Type 0
+Memory = service.Memory hub
+
+-- a call, by what it is lent beside these: a password to start with; node and type to enrol; a line to close; a session's number to finish,
+-- and room; line, bytes and room to feed. "A line above 3 is lent any record": close and feed have one for it.
+pub data Step : Type 0 where
+  start : List ℕ → Step
+  enrol : ℕ → ℕ → Step
+  close : ℕ → Reading → Step
+  finish : ℕ → List ℕ → Step
+  feed : Lent → Step
+
+-- what is got back
+pub data Return : Type 0 where
+  started : Started → Return
+  enrolled : Enrolled → Return
+  closed : ClosedLine → Return
+  finished : FinishedSession → Return
+  fed : Got hub → Return
+
+-- the record lent for line l: its own, if it has one
+abbrev pub lineRecord : Memory → ℕ → Reading → Reading
+lineRecord m l spare = getD (m .records) l spare
+
+-- one call that keeps its promise, and what is kept after it: hub, table and record as they are got back, all else as it was
+pub data Made : Memory → Step → Return → Memory → Type 0 where
+  starts : {m : Memory} {p : List ℕ} {o : Started} → Starts (m .hub) (m .table) p o
+      → Made m (start p) (started o) (record { hub = o .hub; table = o .table; records = m .records })
+  enrols : {m : Memory} {n type : ℕ} {o : Enrolled} → Enrols (m .table) n type o
+      → Made m (enrol n type) (enrolled o) (record { hub = m .hub; table = o .table; records = m .records })
+  closes : {m : Memory} {l : ℕ} {spare : Reading} {o : ClosedLine} → Closes (m .hub) (lineRecord m l spare) l o
+      → Made m (close l spare) (closed o) (record { hub = o .hub; table = m .table; records = set (m .records) l (o .reading) })
+  finishes : {m : Memory} {x : ℕ} {room : List ℕ} {o : FinishedSession} → Finishes (m .hub) x room o
+      → Made m (finish x room) (finished o) (record { hub = o .hub; table = m .table; records = m .records })
+  feeds : {m : Memory} {g : Lent} {o : Got hub} → Promise hub (m .hub) (m .table) (recordFor hub m g) (g .line) (g .bytes) (g .room) o
+      → Made m (feed g) (fed o) (leftBy hub m g o)
+
+-- calls one after another: "as the last one left them, and nothing else touches these"
+pub data Steps : Memory → List Step → List Return → Memory → Type 0 where
+  stop : {m : Memory} → Steps m [] [] m
+  next : {m v e : Memory} {s : Step} {ss : List Step} {o : Return} {os : List Return} → Made m s o v → Steps v ss os e → Steps m (s ∷ ss) (o ∷ os) e
+
+-- ---- refusals
+
+-- the refusal that applies to a call, if any, in the order of the numbers
+unfoldable pub refusal : Memory → Step → Option ℕ
+refusal m (start p) = rules.startRefusal (m .table) p
+refusal m (enrol n type) = rules.enrolRefusal (m .table) n
+refusal m (close l spare) = rules.closeRefusal l
+refusal m (finish x room) =
+    rules.refuseIf (ltb (length room) minRoom) rules.shortRoom (rules.refuseIf (not (any (isNumbered x) (m .hub .slots))) rules.notOpen none)
+refusal m (feed g) = rules.feedRefusal (m .table) (g .line) (length (g .room))
+
+-- the one that finish tells, and feed
+unfoldable pub finishTells : Finish → Option ℕ
+finishTells (refusedFinish n) = some n
+finishTells (finishedOn l k) = none
+
+unfoldable pub feedTells : system.Answer → Option ℕ
+feedTells (system.refused n) = some n
+feedTells (system.told u o k) = none
+
+-- the one that a call tells
+unfoldable pub refusalTold : Return → Option ℕ
+refusalTold (started o) = o .refusal
+refusalTold (enrolled o) = o .refusal
+refusalTold (closed o) = o .refusal
+refusalTold (finished o) = finishTells (o .answer)
+refusalTold (fed o) = feedTells (o .answer)
+
+-- whether there is one
+unfoldable pub isRefusal : Option ℕ → Bool
+isRefusal none = false
+isRefusal (some n) = true
+
+abbrev pub isRefused : Return → Bool
+isRefused o = isRefusal (refusalTold o)
+
+-- ---- lent memory
+
+-- the room, if a call is lent any, and as it is got back
+unfoldable pub roomLent : Step → Option (List ℕ)
+roomLent (start p) = none
+roomLent (enrol n type) = none
+roomLent (close l spare) = none
+roomLent (finish x room) = some room
+roomLent (feed g) = some (g .room)
+
+unfoldable pub roomBack : Return → Option (List ℕ)
+roomBack (started o) = none
+roomBack (enrolled o) = none
+roomBack (closed o) = none
+roomBack (finished o) = some (o .room)
+roomBack (fed o) = some (o .room)
+
+-- the record, if a call is lent one, and as it is got back
+unfoldable pub recordLent : Memory → Step → Option Reading
+recordLent m (start p) = none
+recordLent m (enrol n type) = none
+recordLent m (close l spare) = some (lineRecord m l spare)
+recordLent m (finish x room) = none
+recordLent m (feed g) = some (recordFor hub m g)
+
+unfoldable pub recordBack : Return → Option Reading
+recordBack (started o) = none
+recordBack (enrolled o) = none
+recordBack (closed o) = some (o .reading)
+recordBack (finished o) = none
+recordBack (fed o) = some (o .reading)
+
+-- ---- logins
+
+-- the host's calls, and the feeds of a line that is logged in
+unfoldable pub isPrivileged : Memory → Step → Bool
+isPrivileged m (start p) = true
+isPrivileged m (enrol n type) = true
+isPrivileged m (close l spare) = true
+isPrivileged m (finish x room) = true
+isPrivileged m (feed g) = isLoggedIn (m .hub) (g .line)
+
+-- none of a list's calls is one of these when it is made
+abbrev pub Unprivileged : {m e : Memory} {ss : List Step} {os : List Return} → Steps m ss os e → Type 0
+Unprivileged stop = Unit {0}
+Unprivileged (next {m} {s = s} x rest) = (isPrivileged m s ≡ false) × Unprivileged rest
+
+-- whether line l is logged in after a call, where b says whether it was before: a start that is not refused and a close of l log it out, and
+-- a feed on l that tells the right password logs it in
+unfoldable pub loggedBy : ℕ → Bool → {m v : Memory} {s : Step} {o : Return} → Made m s o v → Bool
+loggedBy l b (starts {o = o} x) = unlessRefused (o .refusal) b
+loggedBy l b (enrols x) = b
+loggedBy l b (closes {l = k} x) = cond (eqb k l) false b
+loggedBy l b (finishes x) = b
+loggedBy l b (feeds {m} {g} {o} x) = cond (eqb (g .line) l && isPassword (m .hub) (outcomeOf (o .answer))) true b
+
+-- and after a list of calls
+unfoldable pub loggedByAll : ℕ → Bool → {m e : Memory} {ss : List Step} {os : List Return} → Steps m ss os e → Bool
+loggedByAll l b stop = b
+loggedByAll l b (next x rest) = loggedByAll l (loggedBy l b x) rest
+
+-- ---- the definitions' calls
+
+-- the one that a step is, by its room's length and the state that its record is taken as
+unfoldable pub callOf : Step → calls.Call
+callOf (start p) = calls.start p
+callOf (enrol n type) = calls.enrol n type
+callOf (close l spare) = calls.close l (taken spare)
+callOf (finish x room) = calls.finish x (length room)
+callOf (feed g) = calls.feed (entryOf g)

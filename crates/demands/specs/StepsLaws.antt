@@ -1,0 +1,162 @@
+-- Calls that keep their promises do what the definitions do, records as taken and rooms by their length; and any list of calls can be made.
+use Prim.Native.Nat.{ℕ}
+use mathlib.Core.Path.{_≡_, refl, sym, ap, ap₂, _∙_}
+use mathlib.Core.List.{List, [], _∷_, map}
+use mathlib.Core.Bool.{Bool, true, false, cond, not, _&&_}
+use mathlib.Core.Option.{Option, none, some}
+use native.Mathlib.Omega.{arith}
+use lib.ListN.{length, set, List·getD-map}
+use lib.Dec.{eqb, ltb}
+use Rattle.line.specs.declared.Reading.{Reading}
+use Rattle.frame.specs.Reading.{State, emptiedReading, read, taken}
+use Rattle.frame.specs.Writing.{minRoom}
+use Rattle.sessions.specs.Search.{any}
+use Rattle.sessions.specs.Sessions as sessions
+use Rattle.feeds.specs.System as system
+use Rattle.feeds.specs.Marks.{outcomeOf}
+use Rattle.feeds.specs.Service as service
+use Rattle.feeds.specs.Service.{Lent, Got, entryOf, worldOf, resultOf, recordFor}
+use Rattle.feeds.specs.ServiceLaws.{map-set, promise-feed}
+use Rattle.feeds.specs.Runs.{promise-any}
+use Rattle.rules.specs.declared.Hub.{Hub}
+use Rattle.rules.specs.Hub as rules
+use Rattle.rules.specs.Promises.{ClosedLine, Closes}
+use Rattle.demands.specs.Calls as calls
+use Rattle.demands.specs.Calls.{World, isPassword, unlessRefused, after, afterAll}
+use Rattle.demands.specs.Steps.{Memory, Step, start, enrol, close, finish, feed, Return, started, enrolled, closed, finished, fed, lineRecord, Made, starts, enrols, closes, finishes, feeds, Steps, stop, next, refusal, finishTells, feedTells, refusalTold, isPrivileged, Unprivileged, loggedBy, loggedByAll, callOf}
+
+-- ---- what is left
+
+-- equal parts make equal worlds
+same-world : {h k : Hub} {t : List ℕ} {ss vs : List State} → h ≡ k → ss ≡ vs → _≡_ {A = World} (record { hub = h; table = t; states = ss }) (record { hub = k; table = t; states = vs })
+same-world a b = rw (a, b)
+
+-- a call leaves what the definition's leaves
+pub made-after : {m v : Memory} {s : Step} {o : Return} → Made m s o v → worldOf v ≡ after (worldOf m) (callOf s)
+unfolding after callOf worldOf entryOf
+made-after (starts {m} x) = ap (λ (z : rules.Started). record { hub = z .hub; table = z .table; states = map taken (m .records) }) x
+made-after (enrols {m} x) = ap (λ (z : rules.Enrolled). record { hub = m .hub; table = z .table; states = map taken (m .records) }) x
+made-after (closes {m} {l} {spare} {o} x) =
+    let s = map-set taken (m .records) l (o .reading) ∙ ap (set (map taken (m .records)) l) (x .state) in
+    rw (List·getD-map taken (m .records) l spare) (same-world (x .hub) s)
+made-after (finishes {m} x) = ap (λ (h : Hub). record { hub = h; table = m .table; states = map taken (m .records) }) (x .hub)
+made-after (feeds {m} {g} x) = ap (λ (z : World × system.Result). z .0) (sym (promise-feed m g x))
+
+-- so do calls one after another
+pub steps-after : {m e : Memory} {ss : List Step} {os : List Return} → Steps m ss os e → worldOf e ≡ afterAll (worldOf m) (map callOf ss)
+unfolding afterAll
+steps-after stop = refl
+steps-after (next {ss = ss} x rest) = steps-after rest ∙ ap (λ (w : World). afterAll w (map callOf ss)) (made-after x)
+
+-- a list of feeds, as demand 3 has it, is a list of calls
+pub run-steps : {m e : Memory} {gs : List Lent} {os : List (Got rules.hub)} → service.Run rules.hub m gs os e → Steps m (map feed gs) (map fed os) e
+run-steps service.stop = stop
+run-steps (service.next x rest) = next (feeds x) (run-steps rest)
+
+-- ---- what is answered
+
+-- start, enrol and close tell the refusal that applies
+start-refusal : (h : Hub) (t p : List ℕ) → rules.start h t p .refusal ≡ rules.startRefusal t p
+start-refusal h t p = go (rules.startRefusal t p)
+  where
+    go : (r : Option ℕ) → rules.startBy r h t p .refusal ≡ r
+    go none = refl
+    go (some n) = refl
+
+enrol-refusal : (t : List ℕ) (n type : ℕ) → rules.enrol t n type .refusal ≡ rules.enrolRefusal t n
+enrol-refusal t n type = go (rules.enrolRefusal t n)
+  where
+    go : (r : Option ℕ) → rules.enrolBy r t n type .refusal ≡ r
+    go none = refl
+    go (some k) = refl
+
+close-refusal : (h : Hub) (s : State) (l : ℕ) → rules.close h s l .refusal ≡ rules.closeRefusal l
+close-refusal h s l = go (rules.closeRefusal l)
+  where
+    go : (r : Option ℕ) → rules.closeBy r h s l .refusal ≡ r
+    go none = refl
+    go (some n) = refl
+
+-- a call tells the refusal that applies, and none where none does
+pub made-refusal : {m v : Memory} {s : Step} {o : Return} → Made m s o v → refusalTold o ≡ refusal m s
+unfolding refusal refusalTold finishTells feedTells sessions.finish system.call system.decided system.settled
+made-refusal (starts {m} {p} x) = ap (λ (z : rules.Started). z .refusal) x ∙ start-refusal (m .hub) (m .table) p
+made-refusal (enrols {m} {n} {type} x) = ap (λ (z : rules.Enrolled). z .refusal) x ∙ enrol-refusal (m .table) n type
+made-refusal (closes {m} {l} {spare} x) = x .refusal ∙ close-refusal (m .hub) (taken (lineRecord m l spare)) l
+made-refusal (finishes {m} {x} {room} y) = ap finishTells (y .answer) ∙ go (ltb (length room) minRoom) (any (sessions.isNumbered x) (m .hub .slots)) _
+  where
+    go : (a b : Bool) (f : sessions.Finished)
+        → finishTells (rules.finishBy a (cond b (some f) none) (m .hub) x .answer) ≡ rules.refuseIf a rules.shortRoom (rules.refuseIf (not b) rules.notOpen none)
+    go true b f = refl
+    go false true f = refl
+    go false false f = refl
+made-refusal (feeds {m} {g} x) = ap feedTells (x .answer) ∙ go (rules.feedRefusal (m .table) (g .line) (length (g .room)))
+  where
+    s : State
+    s = taken (recordFor rules.hub m g)
+
+    go : (r : Option ℕ) → feedTells (system.decided rules.hub (m .hub) (m .table) (g .line) s (read s (g .bytes)) r .result .answer) ≡ r
+    go none = refl
+    go (some n) = refl
+
+-- ---- logins
+
+-- a call logs in and out as the definition's does
+made-logged : (l : ℕ) (b : Bool) {m v : Memory} {s : Step} {o : Return} (x : Made m s o v) → loggedBy l b x ≡ calls.loggedBy l b (worldOf m) (callOf s)
+unfolding loggedBy calls.loggedBy callOf worldOf entryOf resultOf refusal refusalTold
+made-logged l b (starts {m} {p} {o} x) = ap (λ (r : Option ℕ). unlessRefused r b) (made-refusal (starts {m = m} {p = p} {o = o} x))
+made-logged l b (enrols x) = refl
+made-logged l b (closes x) = refl
+made-logged l b (finishes x) = refl
+made-logged l b (feeds {m} {g} x) =
+    ap (λ (z : World × system.Result). cond (eqb (g .line) l && isPassword (m .hub) (outcomeOf (z .1 .answer))) true b) (sym (promise-feed m g x))
+
+-- so do calls one after another
+pub steps-logged : (l : ℕ) (b : Bool) {m e : Memory} {ss : List Step} {os : List Return} (x : Steps m ss os e)
+    → loggedByAll l b x ≡ calls.loggedByAll l b (worldOf m) (map callOf ss)
+unfolding loggedByAll calls.loggedByAll
+steps-logged l b stop = refl
+steps-logged l b (next {ss = ss} x rest) =
+    steps-logged l (loggedBy l b x) rest ∙ ap₂ (λ (c : Bool) (w : World). calls.loggedByAll l c w (map callOf ss)) (made-logged l b x) (made-after x)
+
+-- calls that are not privileged are not so as the definitions'
+pub steps-unprivileged : {m e : Memory} {ss : List Step} {os : List Return} (x : Steps m ss os e) → Unprivileged x → calls.Unprivileged (worldOf m) (map callOf ss)
+unfolding isPrivileged callOf worldOf entryOf
+steps-unprivileged stop u = tt
+steps-unprivileged (next (starts x) rest) u = let z : _≡_ {A = ℕ} 0 1 = cc in absurd (omega arith)
+steps-unprivileged (next (enrols x) rest) u = let z : _≡_ {A = ℕ} 0 1 = cc in absurd (omega arith)
+steps-unprivileged (next (closes x) rest) u = let z : _≡_ {A = ℕ} 0 1 = cc in absurd (omega arith)
+steps-unprivileged (next (finishes x) rest) u = let z : _≡_ {A = ℕ} 0 1 = cc in absurd (omega arith)
+steps-unprivileged (next (feeds {m} {g} {o} x) rest) u = (u .0, rw (← made-after (feeds {m = m} {g = g} {o = o} x)) (steps-unprivileged rest (u .1)))
+
+-- ---- any list of calls can be made
+
+-- a promise of close can be kept
+close-any : (h : Hub) (r : Reading) (l : ℕ) → (o : ClosedLine) × Closes h r l o
+close-any h r l = go (rules.closeRefusal l) refl
+  where
+    c : rules.Closed
+    c = rules.close h (taken r) l
+
+    go : (x : Option ℕ) → rules.closeRefusal l ≡ x → (o : ClosedLine) × Closes h r l o
+    go (some n) p = (record { refusal = c .refusal; hub = c .hub; reading = r }, record { refusal = refl; hub = refl; state = rw p; kept = λ k q. refl })
+    go none p = (
+      record { refusal = c .refusal; hub = c .hub; reading = emptiedReading },
+      record { refusal = refl; hub = refl; state = rw p; kept = λ k q. let e = sym p ∙ sym (close-refusal h (taken r) l) ∙ q in let z : _≡_ {A = ℕ} 0 1 = cc in absurd (omega arith) },
+    )
+
+-- any call
+made-any : (m : Memory) (s : Step) → (o : Return) × (v : Memory) × Made m s o v
+made-any m (start p) = (started (rules.start (m .hub) (m .table) p), _, starts refl)
+made-any m (enrol n type) = (enrolled (rules.enrol (m .table) n type), _, enrols refl)
+made-any m (close l spare) = let (o, x) = close-any (m .hub) (lineRecord m l spare) l in (closed o, _, closes x)
+made-any m (finish x room) = (finished (record { answer = _; hub = _; room = _ }), _, finishes (record { answer = refl; hub = refl; room = refl }))
+made-any m (feed g) = let (o, x) = promise-any (m .hub) (m .table) (recordFor rules.hub m g) (g .line) (g .bytes) (g .room) in (fed o, _, feeds x)
+
+-- whatever is kept at the start and lent to each
+pub steps-any : (m : Memory) (ss : List Step) → (os : List Return) × (e : Memory) × Steps m ss os e
+steps-any m [] = ([], m, stop)
+steps-any m (s ∷ ss) =
+    let (o, v, x) = made-any m s in
+    let (os, e, y) = steps-any v ss in
+    (o ∷ os, e, next x y)

@@ -1,0 +1,91 @@
+// What one wire byte asks of the line reader, and where a lent record is taken up (document 01, "From wire to packet").
+// Each answer does the definition's step, whatever bytes are held: crate line, specs/Reader.antt, specs/Code.antt.
+// It stands on what the line layer states.
+ghost use Rattle.line.specs.Code.{Takes, Acts, stepping, closing, storing};
+use line::Action;
+use line::END;
+use line::ESC;
+use line::ESC_END;
+use line::ESC_ESC;
+use line::Fault;
+use line::LIMIT;
+use line::Mode;
+use line::Outcome;
+use line::Place;
+
+// The place that a lent record is taken at.
+pub fn taken_at(place: Place) -> Place
+    ensures { λ r. ⌜ Takes place r ⌝ }
+{
+    let mode = place.mode;
+    let count = place.count;
+    if LIMIT < count {
+        return Place {
+            count: 0,
+            mode: Mode::Plain,
+        };
+    }
+    match mode {
+        Mode::Plain => place,
+        Mode::Escaped => place,
+        Mode::Skipping(fault) => Place {
+            count: 0,
+            mode: Mode::Skipping(fault),
+        },
+    }
+}
+
+pub fn decide(mode: Mode, count: usize, b: u8) -> Action
+    ensures { λ r. ⌜ Acts count (stepping mode b) r ⌝ }
+{
+    match mode {
+        Mode::Plain => {
+            if b == END {
+                return close(count);
+            }
+            if b == ESC {
+                return Action::Keep(Mode::Escaped);
+            }
+            store(count, b)
+        }
+        Mode::Escaped => {
+            if b == END {
+                return Action::Give(Outcome::Refused(Fault::WrongEscape));
+            }
+            if b == ESC_END {
+                return store(count, END);
+            }
+            if b == ESC_ESC {
+                return store(count, ESC);
+            }
+            Action::Skip(Fault::WrongEscape)
+        }
+        Mode::Skipping(fault) => {
+            if b == END {
+                return Action::Give(Outcome::Refused(fault));
+            }
+            Action::Skip(fault)
+        }
+    }
+}
+
+// An END among whole bytes: an empty piece gives no outcome.
+fn close(count: usize) -> Action
+    ensures { λ r. ⌜ Acts count closing r ⌝ }
+{
+    if count == 0 {
+        return Action::Keep(Mode::Plain);
+    }
+    Action::Give(Outcome::Packet(count))
+}
+
+// A decoded byte is stored while there is room for it.
+fn store(count: usize, b: u8) -> Action
+    ensures { λ r. ⌜ Acts count (storing b) r ⌝ }
+{
+    if count < LIMIT {
+        Action::Store(b)
+    } else {
+        Action::Skip(Fault::TooLong)
+    }
+}

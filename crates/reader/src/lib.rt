@@ -1,0 +1,99 @@
+// The frame layer's reading side: wire bytes in, one frame or refusal at a time out (document 01, "From packet to frame").
+// Its answer is the definition's in bytes used, outcome and state: crate frame, specs/Reading.antt, specs/Answers.antt.
+// It stands on the line reader and on the checks on a packet.
+ghost use mathlib.Core.Path.{_≡_};
+ghost use lib.ListN.{length};
+ghost use Rattle.line.specs.Reader.{limit};
+ghost use Rattle.line.specs.Answers.{Within};
+ghost use Rattle.frame.specs.Reading.{read, taken, takenAs, emptiedReading};
+ghost use Rattle.frame.specs.Answers.{answerOf, Answers};
+ghost use Rattle.frame.specs.Code.{Judging, outcomeOf, causeOf};
+use frame::Answer;
+use frame::Judged;
+use frame::Outcome;
+use frame::Refusal;
+use frame::Told;
+use line::Fault;
+use line::Place;
+use line::Reading;
+
+// A reading between packets.
+pub fn emptied() -> Reading
+    ensures { λ r. ⌜ r ≡ emptiedReading ⌝ }
+{
+    wire::emptied()
+}
+
+// Reads to the end of the first outcome or of the bytes.
+pub fn read(reading: Reading, wire: &[u8]) -> Answer
+    ensures { λ r. ⌜ Answers (read (taken reading) (now (wire .entry))) r ⌝ }
+{
+    let mut bytes = reading.bytes;
+    let count = reading.count;
+    let mode = reading.mode;
+    let told = read_in(&mut bytes, Place { count, mode }, wire);
+    let used = told.used;
+    let outcome = told.outcome;
+    let place = told.place;
+    let held = place.count;
+    let stands = place.mode;
+    Answer {
+        used: used,
+        outcome: outcome,
+        reading: Reading {
+            bytes: bytes,
+            count: held,
+            mode: stands,
+        },
+    }
+}
+
+// The same on a reading whose bytes stay where they lie: nothing is copied.
+pub fn read_in(bytes: &mut [u8; line::LIMIT], place: Place, wire: &[u8]) -> Told
+    ensures { λ r. ⌜ Answers (read (takenAs (now (bytes .entry)) (place .count) (place .mode)) (now (wire .entry))) (answerOf (now (bytes .exit)) r) ⌝ }
+{
+    let told = wire::read_in(bytes, place, wire);
+    let used = told.used;
+    let got = told.outcome;
+    let after = told.place;
+    let outcome = judge_in(bytes, got);
+    Told {
+        used: used,
+        outcome: outcome,
+        place: after,
+    }
+}
+
+// A packet that lies at the front of a reading's bytes is judged there.
+fn judge_in(bytes: &[u8], got: line::Outcome) -> Outcome
+    requires { ⌜ (length (now bytes) ≡ limit) × Within got ⌝ }
+    ensures { λ r. ⌜ Judging (now (bytes .entry)) got r ⌝ }
+{
+    match got {
+        line::Outcome::Nothing => Outcome::Nothing,
+        line::Outcome::Packet(n) => outcome_of(checks::judge(&bytes[0..n])),
+        line::Outcome::Refused(fault) => Outcome::Refused(cause_of(fault)),
+    }
+}
+
+fn outcome_of(judged: Judged) -> Outcome
+    ensures { λ r. ⌜ r ≡ outcomeOf judged ⌝ }
+{
+    match judged {
+        Judged::Frame {
+            command,
+            start: _,
+            len,
+        } => Outcome::Frame { command, len },
+        Judged::Refused(refusal) => Outcome::Refused(refusal),
+    }
+}
+
+fn cause_of(fault: Fault) -> Refusal
+    ensures { λ r. ⌜ r ≡ causeOf fault ⌝ }
+{
+    match fault {
+        Fault::WrongEscape => Refusal::WrongEscape,
+        Fault::TooLong => Refusal::TooLong,
+    }
+}

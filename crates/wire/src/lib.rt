@@ -1,0 +1,142 @@
+// The line reader: wire bytes in, one outcome at a time out (document 01, "From wire to packet").
+// Its answer is the definition's in bytes used, outcome and state: crate line, specs/Reader.antt, specs/Answers.antt.
+// It stands on what the line layer states and on what one byte asks for.
+ghost use Prim.Native.Nat.{_≤_};
+ghost use mathlib.Core.Path.{_≡_};
+ghost use lib.ListN.{length};
+ghost use Rattle.line.specs.declared.Mode.the-variants.{Plain};
+ghost use Rattle.line.specs.Reader.{limit, read};
+ghost use Rattle.line.specs.Answers.{emptiedReading, taken, takenAs, answerOf, Answers};
+ghost use Rattle.line.specs.Code.{Runs};
+use line::Action;
+use line::Answer;
+use line::END;
+use line::ESC;
+use line::LIMIT;
+use line::Mode;
+use line::Outcome;
+use line::Place;
+use line::Reading;
+use line::Told;
+
+// A reading between packets.
+pub fn emptied() -> Reading
+    ensures { λ r. ⌜ r ≡ emptiedReading ⌝ }
+{
+    Reading {
+        bytes: [0u8; LIMIT],
+        count: 0,
+        mode: Mode::Plain,
+    }
+}
+
+// Reads to the end of the first outcome or of the bytes.
+pub fn read(reading: Reading, wire: &[u8]) -> Answer
+    ensures { λ r. ⌜ Answers (read (taken reading) (now (wire .entry))) r ⌝ }
+{
+    let mut bytes = reading.bytes;
+    let count = reading.count;
+    let mode = reading.mode;
+    let told = read_in(&mut bytes, Place { count, mode }, wire);
+    let used = told.used;
+    let outcome = told.outcome;
+    let place = told.place;
+    let held = place.count;
+    let stands = place.mode;
+    Answer {
+        used: used,
+        outcome: outcome,
+        reading: Reading {
+            bytes: bytes,
+            count: held,
+            mode: stands,
+        },
+    }
+}
+
+// The same on a reading whose bytes stay where they lie: nothing is copied.
+pub fn read_in(bytes: &mut [u8; LIMIT], place: Place, wire: &[u8]) -> Told
+    ensures { λ r. ⌜ Answers (read (takenAs (now (bytes .entry)) (place .count) (place .mode)) (now (wire .entry))) (answerOf (now (bytes .exit)) r) ⌝ }
+{
+    let first = escape::taken_at(place);
+    let mut count = first.count;
+    let mut mode = first.mode;
+    let mut i = 0;
+    while i < wire.len() {
+        let run = plain_run(mode, bytes, count, wire, i);
+        count += run;
+        i += run;
+        if wire.len() <= i {
+            return Told {
+                used: i,
+                outcome: Outcome::Nothing,
+                place: Place { count, mode },
+            };
+        }
+        let b = wire[i];
+        i += 1;
+        match escape::decide(mode, count, b) {
+            Action::Store(v) => {
+                bytes[count] = v;
+                count += 1;
+                mode = Mode::Plain;
+            }
+            Action::Keep(m) => {
+                mode = m;
+            }
+            Action::Skip(f) => {
+                count = 0;
+                mode = Mode::Skipping(f);
+            }
+            Action::Give(outcome) => {
+                return Told {
+                    used: i,
+                    outcome: outcome,
+                    place: Place {
+                        count: 0,
+                        mode: Mode::Plain,
+                    },
+                };
+            }
+        }
+    }
+    Told {
+        used: i,
+        outcome: Outcome::Nothing,
+        place: Place { count, mode },
+    }
+}
+
+// Stores the bytes from `at` on that go as they are, in a mode that takes such, and answers how many.
+fn plain_run(mode: Mode, bytes: &mut [u8], count: usize, wire: &[u8], at: usize) -> usize
+    requires { ⌜ (length (now bytes) ≡ limit) × (count ≤ limit) × (at ≤ length (now wire)) ⌝ }
+    ensures { λ r. ⌜ Runs mode (now (bytes .entry)) count (now (wire .entry)) at (now (bytes .exit)) r ⌝ }
+{
+    match mode {
+        Mode::Plain => copy_run(bytes, count, wire, at),
+        Mode::Escaped => 0,
+        Mode::Skipping(_) => 0,
+    }
+}
+
+fn copy_run(bytes: &mut [u8], count: usize, wire: &[u8], at: usize) -> usize
+    requires { ⌜ (length (now bytes) ≡ limit) × (count ≤ limit) × (at ≤ length (now wire)) ⌝ }
+    ensures { λ r. ⌜ Runs Plain (now (bytes .entry)) count (now (wire .entry)) at (now (bytes .exit)) r ⌝ }
+{
+    let mut run = 0;
+    while at + run < wire.len() {
+        let b = wire[at + run];
+        if b == END {
+            return run;
+        }
+        if b == ESC {
+            return run;
+        }
+        if LIMIT <= count + run {
+            return run;
+        }
+        bytes[count + run] = b;
+        run += 1;
+    }
+    run
+}
