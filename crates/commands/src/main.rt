@@ -10,7 +10,7 @@ fn write_entry(entry: Entry) -> bool {
     let least = entry.least;
     let greatest = entry.greatest;
     let mut out = [0u8; lines::LINE];
-    let end = lines::entry_line(&mut out, 0, number, least, greatest);
+    let end = entries::entry_line(&mut out, 0, number, least, greatest);
     io::write_all(STDOUT_FILENO, &out[0..end])
 }
 

@@ -76,7 +76,7 @@ fn hex2(out: &mut [u8], at: usize, byte: u8) -> usize
     ensures { λ r. ⌜ Wrote (now (out .entry)) at (hex2 byte) (now (out .exit)) r ⌝ }
 {
     let n = byte as u64;
-    out[at] = text::digit(n / 16);
-    out[at + 1] = text::digit(n);
+    out[at] = digits::digit(n / 16);
+    out[at + 1] = digits::digit(n);
     at + 2
 }

@@ -111,7 +111,7 @@ pub fn start(hub: Hub, table: &mut [u8], password: &[u8]) -> Started
             hub: hub,
         };
     }
-    table::empty(table);
+    enrolment::empty(table);
     let next = fresh(password_of(password));
     Started {
         answer: CallAnswer::Done,
@@ -141,7 +141,7 @@ pub fn enrol(table: &mut [u8], node: u8, kind: u16) -> CallAnswer
     if table::in_use(table, node as usize) {
         return CallAnswer::Refused(Refusal::NodeInUse);
     }
-    table::enrol(table, node, kind);
+    enrolment::enrol(table, node, kind);
     CallAnswer::Done
 }
 

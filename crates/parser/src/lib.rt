@@ -207,7 +207,7 @@ fn has_bytes(line: &[u8], from: usize) -> bool
         return false;
     }
     let end = word_end(line, from);
-    spelling::is_bytes(&line[from..end])
+    decoding::is_bytes(&line[from..end])
 }
 
 // Where the word ends that starts at `from`: at the next space, or with the line.

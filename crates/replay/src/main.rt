@@ -141,7 +141,7 @@ fn finish_line(out: &mut [u8], at: usize, answer: FinishAnswer, room: &[u8]) -> 
         FinishAnswer::Finished { line, len } => {
             let n = least(len, room.len());
             let spilled = report::spilled(room, n, FILLER);
-            report::finished_line(out, at, line, &room[0..n], spilled)
+            replied::finished_line(out, at, line, &room[0..n], spilled)
         }
     }
 }
@@ -164,8 +164,8 @@ fn told_line(
     let n = least(len, room.len());
     let spilled = report::spilled(room, n, FILLER);
     match outcome {
-        Outcome::Nothing => report::none_line(out, at, used, &room[0..n], spilled),
-        Outcome::Frame { command, len } => report::frame_line(
+        Outcome::Nothing => replied::none_line(out, at, used, &room[0..n], spilled),
+        Outcome::Frame { command, len } => replied::frame_line(
             out,
             at,
             used,
@@ -174,7 +174,7 @@ fn told_line(
             &room[0..n],
             spilled,
         ),
-        Outcome::Refused(refusal) => report::packet_line(
+        Outcome::Refused(refusal) => replied::packet_line(
             out,
             at,
             used,
@@ -288,7 +288,7 @@ fn start(state: State, table: &mut [u8], word: &[u8], out: &mut [u8], at: usize)
     let before = state.hub;
     let readings = state.readings;
     let mut bytes = [0u8; DATA];
-    let n = least(spelling::decode(word, &mut bytes), DATA);
+    let n = least(decoding::decode(word, &mut bytes), DATA);
     let started = hub::start(before, table, &bytes[0..n]);
     let next = started.hub;
     let answer = started.answer;
@@ -364,7 +364,7 @@ fn feed(
     let readings = state.readings;
     let lent_reading = reading_of(readings, line);
     let mut bytes = [0u8; DATA];
-    let n = least(spelling::decode(word, &mut bytes), DATA);
+    let n = least(decoding::decode(word, &mut bytes), DATA);
     let mut space = [FILLER; ROOM];
     let room: &mut [u8] = &mut space;
     let fed = hub::feed(

@@ -170,7 +170,7 @@ fn get_node(hub: Hub, table: &[u8], room: &mut [u8], node: u8) -> Served
     requires { ⌜ (length (now table) ≡ tableSize) × (minRoom ≤ length (now room)) ⌝ }
     ensures { λ r. ⌜ Answered hub (getNode hub (now (table .entry)) node .reply) (now (room .entry)) r (now (room .exit)) ⌝ }
 {
-    let informed = fields::information(table, node);
+    let informed = informing::information(table, node);
     if !informed.known {
         let refused = confirm(room, 0x0201, nodes::INVALID_NODE, node);
         return Served {
@@ -219,7 +219,7 @@ fn remove_nodes(hub: Hub, table: &mut [u8], room: &mut [u8], bits: &[u8]) -> Ser
     ensures { λ r. ⌜ Serves (removeNodes hub (now (table .entry)) (now (bits .entry))) (now (room .entry)) r (now (table .exit)) (now (room .exit)) ⌝ }
 {
     let slots = hub.slots;
-    let left = slots::close_removed(slots, table, bits);
+    let left = removal::close_removed(slots, table, bits);
     table::remove(table, bits);
     let scene_deleted = [0];
     let n = reply(room, 0x0107, &scene_deleted);
@@ -231,7 +231,7 @@ fn virgin_state(hub: Hub, table: &mut [u8], room: &mut [u8]) -> Served
     requires { ⌜ minRoom ≤ length (now room) ⌝ }
     ensures { λ r. ⌜ Serves (virginState hub (now (table .entry))) (now (room .entry)) r (now (table .exit)) (now (room .exit)) ⌝ }
 {
-    table::empty(table);
+    enrolment::empty(table);
     let nothing: [u8; 0] = [];
     let n = reply(room, 0x0109, &nothing);
     let slots = hub.slots;

@@ -49,11 +49,11 @@ pub fn slot_line(
 {
     let mut whole = [0; SLOT];
     let digits = text::append(&mut whole, 0, b"slot ");
-    let gap = text::append_decimal(&mut whole, digits, slot as u64);
+    let gap = digits::append_decimal(&mut whole, digits, slot as u64);
     let hex = text::append(&mut whole, gap, b" ");
-    let next_gap = text::append_hex4(&mut whole, hex, session);
+    let next_gap = digits::append_hex4(&mut whole, hex, session);
     let owner = text::append(&mut whole, next_gap, b" ");
-    let first = text::append_decimal(&mut whole, owner, line as u64);
+    let first = digits::append_decimal(&mut whole, owner, line as u64);
     let last = put_nodes(&mut whole, first, nodes);
     let end = text::append(&mut whole, last, b"\n");
     text::append(out, at, &whole[0..end])
@@ -65,7 +65,7 @@ pub fn node_line(out: &mut [u8], at: usize, node: u8, fields: &[u8]) -> usize
 {
     let mut head = [0; HEAD];
     let digits = text::append(&mut head, 0, b"node ");
-    let last = text::append_decimal(&mut head, digits, node as u64);
+    let last = digits::append_decimal(&mut head, digits, node as u64);
     let end = text::append(&mut head, last, b" ");
     hexes::bytes_line(out, at, &head[0..end], fields, b"\n")
 }
@@ -76,7 +76,7 @@ pub fn reading_line(out: &mut [u8], at: usize, line: u8, mode: Mode, held: &[u8]
 {
     let mut head = [0; HEAD];
     let digits = text::append(&mut head, 0, b"line ");
-    let gap = text::append_decimal(&mut head, digits, line as u64);
+    let gap = digits::append_decimal(&mut head, digits, line as u64);
     let word = text::append(&mut head, gap, b" ");
     let last = mode_word(&mut head, word, mode);
     let end = text::append(&mut head, last, b" ");
@@ -132,5 +132,5 @@ fn node_word(out: &mut [u8], at: usize, node: usize, marked: bool) -> usize
         return at;
     }
     let digits = text::append(out, at, b" ");
-    text::append_decimal(out, digits, node as u64)
+    digits::append_decimal(out, digits, node as u64)
 }

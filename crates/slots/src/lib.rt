@@ -1,11 +1,9 @@
-// The session slots: closing sessions, and finding one by its number (document 01, host calls and remove nodes).
+// The session slots: closing sessions, and finding one by its number (document 01, host calls).
 // Each answer is the definition's: crate sessions, specs/Sessions.antt. It stands on the sessions' rules and the node table.
 ghost use mathlib.Core.Path.{_≡_};
-ghost use mathlib.Core.Bool.{_&&_, _||_};
 ghost use lib.ListN.{replicate};
-ghost use Rattle.nodes.specs.Table.{isRemoved};
 ghost use Rattle.sessions.specs.Search.{first};
-ghost use Rattle.sessions.specs.Sessions.{slotCount, closedSlot, isNumbered, isOn, holds, closeIf, closeLine, holdsRemoved, closeRemoved, finish, ended};
+ghost use Rattle.sessions.specs.Sessions.{slotCount, closedSlot, isNumbered, isOn, holds, closeIf, closeLine, finish, ended};
 use sessions::Ended;
 use sessions::Slot;
 use sessions::Told;
@@ -26,23 +24,6 @@ pub fn close_line(slots: [Slot; sessions::SLOTS], line: u8) -> [Slot; sessions::
     let mut k = 0;
     while k < sessions::SLOTS {
         out[k] = close_if_on(slots[k], line);
-        k += 1;
-    }
-    out
-}
-
-// The sessions with a node that is removed close.
-pub fn close_removed(
-    slots: [Slot; sessions::SLOTS],
-    table: &[u8],
-    bits: &[u8],
-) -> [Slot; sessions::SLOTS]
-    ensures { λ r. ⌜ r ≡ closeRemoved (now (table .entry)) (now (bits .entry)) slots ⌝ }
-{
-    let mut out = slots;
-    let mut k = 0;
-    while k < sessions::SLOTS {
-        out[k] = close_if_removed(slots[k], table, bits);
         k += 1;
     }
     out
@@ -70,7 +51,7 @@ pub fn finish(slots: [Slot; sessions::SLOTS], number: u16) -> Ended
 }
 
 // A free slot.
-fn closed_slot() -> Slot
+pub fn closed_slot() -> Slot
     ensures { λ r. ⌜ r ≡ closedSlot ⌝ }
 {
     Slot {
@@ -88,41 +69,6 @@ fn close_if_on(slot: Slot, line: u8) -> Slot
         return closed_slot();
     }
     slot
-}
-
-fn close_if_removed(slot: Slot, table: &[u8], bits: &[u8]) -> Slot
-    ensures { λ r. ⌜ r ≡ closeIf (holdsRemoved (now (table .entry)) (now (bits .entry))) slot ⌝ }
-{
-    if holds_removed(slot, table, bits) {
-        return closed_slot();
-    }
-    slot
-}
-
-// Whether a session has a node that is removed.
-fn holds_removed(slot: Slot, table: &[u8], bits: &[u8]) -> bool
-    ensures { λ r. ⌜ r ≡ holdsRemoved (now (table .entry)) (now (bits .entry)) slot ⌝ }
-{
-    let mut found = false;
-    let mut k = 0;
-    while k < nodes::NODES {
-        found = found_removed(found, slot, table, bits, k);
-        k += 1;
-    }
-    found
-}
-
-// Whether one was found before, or node k is one.
-fn found_removed(found: bool, slot: Slot, table: &[u8], bits: &[u8], k: usize) -> bool
-    ensures { λ r. ⌜ r ≡ (found || (holds k slot && isRemoved (now (table .entry)) (now (bits .entry)) k)) ⌝ }
-{
-    if found {
-        return true;
-    }
-    if holds(slot, k) {
-        return table::is_removed(table, bits, k);
-    }
-    false
 }
 
 // Whether an open session is on a line, has a number, holds a node.

@@ -3,7 +3,7 @@
 ghost use Prim.Native.Nat.{_<_};
 ghost use mathlib.Core.Path.{_≡_};
 ghost use lib.ListN.{getD};
-ghost use Rattle.nodes.specs.Table.{nodeCount, inUse, bit, isRemoved, removeOne, remove, emptied, enrolled};
+ghost use Rattle.nodes.specs.Table.{nodeCount, inUse, bit, isRemoved, removeOne, remove};
 
 // Whether a node is in use.
 pub fn in_use(table: &[u8], node: usize) -> bool
@@ -61,22 +61,4 @@ fn remove_one(table: &mut [u8], bits: &[u8], k: usize)
     if is_removed(table, bits, k) {
         store::fill(table, k * nodes::RECORD, nodes::RECORD, 0);
     }
-}
-
-// All bytes become zero.
-pub fn empty(table: &mut [u8])
-    ensures { λ r. ⌜ now (table .exit) ≡ emptied (now (table .entry)) ⌝ }
-{
-    let n = table.len();
-    store::fill(table, 0, n, 0);
-}
-
-// A node's record is made anew: in use, with its type.
-pub fn enrol(table: &mut [u8], node: u8, kind: u16)
-    ensures { λ r. ⌜ now (table .exit) ≡ enrolled (now (table .entry)) node kind ⌝ }
-{
-    let at = (node as usize) * nodes::RECORD;
-    let front = [1, (kind / 256) as u8, (kind % 256) as u8];
-    store::copy(table, at, &front);
-    store::fill(table, at + 3, nodes::RECORD - 3, 0);
 }

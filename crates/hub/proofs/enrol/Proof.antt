@@ -7,7 +7,7 @@ use Rattle.hub.proofs.enrol.Statement.{statement}
 use Rattle.hub.proofs.enrol.Tie as tie
 use Rattle.hub.proofs.enrol.Reads as reads
 use Rattle.hub.proofs.enrol.Lts as lts
-use Rattle.table.proofs.enrol.Reads as enrol-reads
+use Rattle.enrolment.proofs.enrol.Reads as enrol-reads
 use Rattle.table.proofs.in_use.Reads as in-use-reads
 
 -- src/lib.rt:137:9

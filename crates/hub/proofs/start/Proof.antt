@@ -7,7 +7,7 @@ use Rattle.hub.proofs.start.Reads as reads
 use Rattle.hub.proofs.start.Lts as lts
 use Rattle.hub.proofs.fresh.Reads as fresh-reads
 use Rattle.hub.proofs.password_of.Reads as password-of-reads
-use Rattle.table.proofs.empty.Reads as empty-reads
+use Rattle.enrolment.proofs.empty.Reads as empty-reads
 
 -- src/lib.rt:104:9
 returns : tie.Need-returns

@@ -15,7 +15,7 @@ use Rattle.requests.proofs.get_node.Statement.{statement}
 use Rattle.requests.proofs.get_node.Tie as tie
 use Rattle.requests.proofs.get_node.Reads as reads
 use Rattle.requests.proofs.get_node.Lts as lts
-use Rattle.fields.proofs.information.Reads as information-reads
+use Rattle.informing.proofs.information.Reads as information-reads
 use Rattle.requests.proofs.confirm.Reads as confirm-reads
 use Rattle.requests.proofs.reply_at.Reads as reply-at-reads
 

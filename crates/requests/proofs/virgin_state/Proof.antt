@@ -5,7 +5,7 @@ use Rattle.requests.proofs.virgin_state.Statement.{statement}
 use Rattle.requests.proofs.virgin_state.Tie as tie
 use Rattle.requests.proofs.virgin_state.Reads as reads
 use Rattle.requests.proofs.virgin_state.Lts as lts
-use Rattle.table.proofs.empty.Reads as empty-reads
+use Rattle.enrolment.proofs.empty.Reads as empty-reads
 use Rattle.requests.proofs.close_all.Reads as close-all-reads
 use Rattle.requests.proofs.reply.Reads as reply-reads
 use Rattle.access.proofs.with_slots.Reads as with-slots-reads

@@ -1,0 +1,21 @@
+use Rattle.store.specs.WroteLaws.{sets-whole}
+use lib.ListN.{replicate, length, length-replicate}
+use mathlib.Core.Path.{_∙_}
+use borrow.Author.Needs.{needs}
+use Rattle.enrolment.proofs.empty.Statement.{statement}
+use Rattle.enrolment.proofs.empty.Tie as tie
+use Rattle.enrolment.proofs.empty.Reads as reads
+use Rattle.enrolment.proofs.empty.Lts as lts
+use Rattle.store.proofs.fill.Reads as fill-reads
+
+fill-requires : tie.Need-fill-requires
+fill-requires c κs = search needs
+
+same-length : tie.Need-same-length
+same-length c = search needs
+
+returns : tie.Need-returns
+returns c = c .before .before .fill .ensures ∙ sets-whole (c .before .before .before .before .before .args .table .now) (replicate (length (c .before .before .before .before .before .args .table .now)) 0) (length-replicate (length (c .before .before .before .before .before .args .table .now)) 0)
+
+pub empty-spec : {M : Type 1} → statement M
+empty-spec = tie.close (tie.spec fill-requires same-length returns)

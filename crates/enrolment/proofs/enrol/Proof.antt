@@ -1,0 +1,59 @@
+use Prim.Native.Nat.{_*_, _/_, _%_}
+use Rattle.nodes.specs.Table.{enrolledRecord}
+use Rattle.store.specs.WroteLaws.{sets-append}
+use lib.ListN.{replicate}
+use mathlib.Core.List.{[], _∷_}
+use mathlib.Core.Path.{_∙_}
+use borrow.Author.Needs.{needs}
+use Rattle.enrolment.proofs.enrol.Statement.{statement}
+use Rattle.enrolment.proofs.enrol.Tie as tie
+use Rattle.enrolment.proofs.enrol.Reads as reads
+use Rattle.enrolment.proofs.enrol.Lts as lts
+use Rattle.store.proofs.copy.Reads as copy-reads
+use Rattle.store.proofs.fill.Reads as fill-reads
+
+mul-at : tie.Need-mul-at
+mul-at c = search needs
+
+cast-t8 : tie.Need-cast-t8
+cast-t8 c = search needs
+
+cast-t10 : tie.Need-cast-t10
+cast-t10 c = search needs
+
+slice-aggregate-copy : tie.Need-slice-aggregate-copy
+slice-aggregate-copy c = search needs
+
+copy-requires : tie.Need-copy-requires
+copy-requires c κs = search needs
+
+add-fill : tie.Need-add-fill
+add-fill c = search needs
+
+sub-fill : tie.Need-sub-fill
+sub-fill c = search needs
+
+fill-requires : tie.Need-fill-requires
+fill-requires c κs = search needs
+
+same-length : tie.Need-same-length
+same-length c = search needs
+
+returns : tie.Need-returns
+unfolding enrolledRecord
+returns c = c .before .before .fill .ensures ∙ rw (c .before .before .before .before .before .before .copy .ensures) (sets-append (1 ∷ c .before .before .before .before .before .before .before .before .before .before .args .kind / 256 ∷ c .before .before .before .before .before .before .before .before .before .before .args .kind % 256 ∷ []) (replicate 69 0) (c .before .before .before .before .before .before .before .before .before .before .args .table .now) (c .before .before .before .before .before .before .before .before .before .before .args .node * 72))
+
+pub enrol-spec : {M : Type 1} → statement M
+enrol-spec =
+    tie.close
+    (tie.spec
+    mul-at
+    cast-t8
+    cast-t10
+    slice-aggregate-copy
+    copy-requires
+    add-fill
+    sub-fill
+    fill-requires
+    same-length
+    returns)

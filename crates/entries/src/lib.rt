@@ -1,0 +1,24 @@
+// The directory's lines, appended to lent memory at a place.
+// A line is written whole or not at all, and is the definition's to the byte: specs/Lines.antt of `answers`.
+// It stands on the text's pieces of a line.
+ghost use Rattle.text.specs.Appended.{appended, Leaves};
+ghost use Rattle.answers.specs.Lines.{entryLine};
+
+// "CCCC L G": a command, and the least and the greatest length of its data.
+pub fn entry_line(out: &mut [u8], at: usize, command: u16, least: u8, greatest: u8) -> usize
+    ensures { λ r. ⌜ Leaves (appended (now (out .entry)) at (entryLine command least greatest)) (now (out .exit)) r ⌝ }
+{
+    let low = least as u64;
+    let high = greatest as u64;
+    let low_count = digits::width(low);
+    let high_count = digits::width(high);
+    if text::room(out.len(), at) < 7 + low_count + high_count {
+        return at;
+    }
+    let gap = digits::append_hex4(out, at, command);
+    let low_digits = text::append(out, gap, b" ");
+    let next_gap = digits::append_decimal(out, low_digits, low);
+    let high_digits = text::append(out, next_gap, b" ");
+    let line_end = digits::append_decimal(out, high_digits, high);
+    text::append(out, line_end, b"\n")
+}

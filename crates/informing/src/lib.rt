@@ -1,0 +1,64 @@
+// What is told of a node: the data of frame 0210 (document 01, get node information).
+// They are the definition's: crate nodes, specs/Table.antt. It stands on the table's rules and who is in use.
+ghost use Prim.Native.Nat.{_+_, _≤_, _<_};
+ghost use mathlib.Core.Path.{_≡_};
+ghost use lib.ListN.{length};
+ghost use Rattle.store.specs.Wrote.{Wrote};
+ghost use Rattle.nodes.specs.Table.{nodeCount, recordSize, tableSize, informationSize, fieldOf, information, nothing, informed};
+use nodes::Field;
+use nodes::Informed;
+
+// The data of frame 0210.
+pub fn information(table: &[u8], node: u8) -> Informed
+    ensures { λ r. ⌜ r ≡ informed (now (table .entry)) node ⌝ }
+{
+    if table.len() != nodes::TABLE {
+        return nothing();
+    }
+    if !table::in_use(table, node as usize) {
+        return nothing();
+    }
+    let bytes = information_of(table, node);
+    Informed {
+        known: true,
+        bytes: bytes,
+    }
+}
+
+fn nothing() -> Informed
+    ensures { λ r. ⌜ r ≡ nothing ⌝ }
+{
+    Informed {
+        known: false,
+        bytes: [0u8; nodes::INFORMATION],
+    }
+}
+
+fn information_of(table: &[u8], node: u8) -> [u8; nodes::INFORMATION]
+    requires { ⌜ (length (now table) ≡ tableSize) × (node < nodeCount) ⌝ }
+    ensures { λ r. ⌜ r ≡ information (now (table .entry)) node ⌝ }
+{
+    let mut out = [0u8; nodes::INFORMATION];
+    let n = node as usize;
+    out[0] = node;
+    let placement = put_field(&mut out, 1, table, n, Field { at: 67, size: 2 });
+    let name = put_field(&mut out, placement, table, n, Field { at: 69, size: 1 });
+    let velocity = put_field(&mut out, name, table, n, Field { at: 3, size: 64 });
+    store::fill(&mut out, velocity, 1, 0);
+    let group = put_field(&mut out, velocity + 1, table, n, Field { at: 1, size: 2 });
+    store::fill(&mut out, group, 2, 0);
+    let power = put_field(&mut out, group + 2, table, n, Field { at: 70, size: 1 });
+    store::fill(&mut out, power, 50, 0);
+    out
+}
+
+// A field of a node's record, from a place on; the answer is the place behind it.
+fn put_field(out: &mut [u8], at: usize, table: &[u8], node: usize, field: Field) -> usize
+    requires { ⌜ (length (now table) ≡ tableSize) × (node < nodeCount) × (field .at + field .size ≤ recordSize) × (at ≤ informationSize) ⌝ }
+    ensures { λ r. ⌜ Wrote (now (out .entry)) at (fieldOf (now (table .entry)) node field) (now (out .exit)) r × (r ≡ at + field .size) ⌝ }
+{
+    let size = field.size;
+    let start = node * nodes::RECORD + field.at;
+    store::copy(out, at, &table[start..start + size]);
+    at + size
+}

@@ -1,0 +1,67 @@
+use Prim.Native.Nat.{_≤_, _<_, _-_}
+use mathlib.Core.List.{_++_, map}
+use mathlib.Core.Path.{_≡_, refl, _∙_}
+use native.Mathlib.Omega.{arith}
+use lib.ListN.{length, take, drop}
+use borrow.Author.Needs.{needs}
+use Rattle.sessions.specs.ListLaws.{map-on, map-end}
+use Rattle.sessions.specs.Sessions.{slotCount, holdsRemoved, closeIf}
+use Rattle.removal.proofs.close_removed.Statement.{statement}
+use Rattle.removal.proofs.close_removed.Tie as tie
+
+-- The slots before the place are done, and the others as they were.
+abbrev Inv-loop : tie.InvT-loop
+Inv-loop table bits slots out₀ k₀ out k = (k ≤ slotCount) × (length slots ≡ slotCount) × (out ≡ map (closeIf (holdsRemoved table bits)) (take k slots) ++ drop k slots)
+
+abbrev μ-loop : tie.MeasureT-loop
+μ-loop table bits slots out₀ k₀ out k = slotCount - k
+
+within : (c : tie.In-loop Inv-loop μ-loop) → c .before .loop .k < length (c .before .before .before .before .args .t1)
+within c = omega arith
+
+loop-holds : tie.Need-loop-holds Inv-loop μ-loop
+loop-holds c = (search needs, search needs, refl)
+
+mul-close-if-removed : tie.Need-mul-close-if-removed Inv-loop μ-loop
+mul-close-if-removed c = search needs
+
+array-copy-out-close-if-removed : tie.Need-array-copy-out-close-if-removed Inv-loop μ-loop
+array-copy-out-close-if-removed c = search needs
+
+close-if-removed-requires : tie.Need-close-if-removed-requires Inv-loop μ-loop
+close-if-removed-requires c κs = search needs
+
+mul-out : tie.Need-mul-out Inv-loop μ-loop
+mul-out c = search needs
+
+array-set-from-out : tie.Need-array-set-from-out Inv-loop μ-loop
+array-set-from-out c = search needs
+
+add-k : tie.Need-add-k Inv-loop μ-loop
+add-k c = search needs
+
+loop-less : tie.Need-loop-less Inv-loop μ-loop
+loop-less c = search needs
+
+loop-again : tie.Need-loop-again Inv-loop μ-loop
+loop-again c = (search needs, search needs, rw (c .close-if-removed .ensures, c .before .before .before .loop .inv .2) (map-on _ _ _ _ (within (c .before .before))))
+
+returns : tie.Need-returns Inv-loop μ-loop
+returns c = c .before .loop .inv .2 ∙ map-end _ (c .before .before .before .before .args .t1) (c .before .loop .k) (omega arith)
+
+pub close-removed-spec : {M : Type 1} → statement M
+close-removed-spec =
+    tie.close
+    (tie.spec
+    Inv-loop
+    μ-loop
+    loop-holds
+    mul-close-if-removed
+    array-copy-out-close-if-removed
+    close-if-removed-requires
+    mul-out
+    array-set-from-out
+    add-k
+    loop-less
+    loop-again
+    returns)
