@@ -1,6 +1,6 @@
--- Laws of the hub's calls.
+-- Laws of the calls on a line.
 use Prim.Native.Nat.{ℕ, _≤_, _<_}
-use mathlib.Core.Path.{_≡_, refl, sym, ap, _∙_}
+use mathlib.Core.Path.{_≡_, refl, sym, ap}
 use mathlib.Core.List.{List}
 use mathlib.Core.Option.{none, some}
 use native.Mathlib.Omega.{arith}
@@ -9,18 +9,15 @@ use borrow.Author.Tests.{lt-ltb, le-ltb}
 use Rattle.line.specs.declared.Reading.{Reading}
 use Rattle.frame.specs.declared.Answer.{Answer}
 use Rattle.frame.specs.Reading.{taken, read, emptiedReading}
-use Rattle.frame.specs.Writing.{minRoom}
 use Rattle.frame.specs.Answers as outcome
 use Rattle.feeds.specs.System.{refused, told, call, decided, settled, serveIf}
 use Rattle.feeds.specs.Service.{Promise}
-use Rattle.sessions.specs.declared.Slot.{Slot}
-use Rattle.sessions.specs.Sessions as sessions
-use Rattle.requests.specs.declared.Served.{Served}
-use Rattle.requests.specs.Answers.{Replied, Serves}
-use Rattle.rules.specs.declared.Hub.{Hub}
-use Rattle.rules.specs.Hub.{lineCount, wrongLine, shortRoom, notOpen, withSlots, closedLine, refusedFinish, finishedOn, notice, feedRefusal, hub}
-use Rattle.rules.specs.Promises.{Closes, Finishes}
 use Rattle.feeds.specs.CallLaws.{call-refused}
+use Rattle.rules.specs.declared.Hub.{Hub}
+use Rattle.rules.specs.Hub.{lineCount, wrongLine, closedLine, feedRefusal, hub}
+use Rattle.rules.specs.Promises.{Closes}
+use Rattle.calls.specs.declared.Served.{Served}
+use Rattle.calls.specs.Replies.{Serves}
 
 module _ (h : Hub) (t : List ℕ) (r : Reading) (l : ℕ) (bytes space : List ℕ) where
   -- a refused feed leaves everything as it was lent
@@ -63,24 +60,3 @@ module _ (h : Hub) (r : Reading) (l : ℕ) where
     state = rw (lt-ltb l lineCount e);
     kept = λ n z. let u : _≡_ {A = ℕ} 0 1 = cc in absurd (omega arith);
   }
-
-module _ (h : Hub) (x : ℕ) (space : List ℕ) where
-  -- finishing with short room, a number that is not open, and one that is
-  pub finish-short : length space < minRoom → Finishes h x space (record { answer = refusedFinish shortRoom; hub = h; room = space })
-  finish-short e = record { answer = rw (lt-ltb (length space) minRoom e); hub = rw (lt-ltb (length space) minRoom e); room = rw (lt-ltb (length space) minRoom e) }
-
-  module _ (e : minRoom ≤ length space) where
-    pub finish-not-open : sessions.finish (h .slots) x ≡ none → Finishes h x space (record { answer = refusedFinish notOpen; hub = h; room = space })
-    finish-not-open o = record {
-      answer = rw (le-ltb (length space) minRoom e, o);
-      hub = rw (le-ltb (length space) minRoom e, o);
-      room = rw (le-ltb (length space) minRoom e, o);
-    }
-
-    pub finish-done : (l n : ℕ) (ss : List Slot) (left : List ℕ) → sessions.finish (h .slots) x ≡ some (record { line = l; slots = ss }) → Replied (notice x) space n left
-        → Finishes h x space (record { answer = finishedOn l n; hub = withSlots h ss; room = left })
-    finish-done l n ss left o w = record {
-      answer = rw (le-ltb (length space) minRoom e, o) (ap (finishedOn l) (w .len));
-      hub = rw (le-ltb (length space) minRoom e, o);
-      room = rw (le-ltb (length space) minRoom e, o) (w .content);
-    }

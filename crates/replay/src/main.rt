@@ -5,11 +5,11 @@ ghost use Prim.Native.Nat.{_≤_, _<_};
 ghost use mathlib.Core.Path.{_≡_};
 ghost use lib.ListN.{length};
 ghost use Rattle.frame.specs.Frame.{refusal as refusalNumber};
-ghost use Rattle.hub.specs.Answers.{number};
+ghost use Rattle.calls.specs.Answers.{number};
+use calls::CallAnswer;
+use calls::FeedAnswer;
+use calls::FinishAnswer;
 use frame::Outcome;
-use hub::CallAnswer;
-use hub::FeedAnswer;
-use hub::FinishAnswer;
 use libc::STDIN_FILENO;
 use libc::STDOUT_FILENO;
 use line::Fault;
@@ -67,7 +67,7 @@ struct Taken {
 }
 
 fn first() -> State {
-    let hub = hub::first();
+    let hub = host::first();
     let reading = reader::emptied();
     State {
         hub: hub,
@@ -96,17 +96,17 @@ fn with_reading(readings: [Reading; 4], line: u8, reading: Reading) -> [Reading;
 
 // ---- answers
 
-fn number_of(refusal: hub::Refusal) -> u8
+fn number_of(refusal: calls::Refusal) -> u8
     ensures { λ r. ⌜ r ≡ number refusal ⌝ }
 {
     match refusal {
-        hub::Refusal::WrongTable => 7,
-        hub::Refusal::WrongLine => 8,
-        hub::Refusal::ShortRoom => 9,
-        hub::Refusal::WrongNode => 11,
-        hub::Refusal::NodeInUse => 12,
-        hub::Refusal::NotOpen => 13,
-        hub::Refusal::WrongPassword => 14,
+        calls::Refusal::WrongTable => 7,
+        calls::Refusal::WrongLine => 8,
+        calls::Refusal::ShortRoom => 9,
+        calls::Refusal::WrongNode => 11,
+        calls::Refusal::NodeInUse => 12,
+        calls::Refusal::NotOpen => 13,
+        calls::Refusal::WrongPassword => 14,
     }
 }
 
@@ -130,7 +130,7 @@ fn call_line(out: &mut [u8], at: usize, answer: CallAnswer) -> usize {
     }
 }
 
-fn refused_line(out: &mut [u8], at: usize, refusal: hub::Refusal, room: &[u8]) -> usize {
+fn refused_line(out: &mut [u8], at: usize, refusal: calls::Refusal, room: &[u8]) -> usize {
     let spilled = report::spilled(room, 0, FILLER);
     report::refused_line(out, at, number_of(refusal), spilled)
 }
@@ -289,7 +289,7 @@ fn start(state: State, table: &mut [u8], word: &[u8], out: &mut [u8], at: usize)
     let readings = state.readings;
     let mut bytes = [0u8; DATA];
     let n = least(decoding::decode(word, &mut bytes), DATA);
-    let started = hub::start(before, table, &bytes[0..n]);
+    let started = host::start(before, table, &bytes[0..n]);
     let next = started.hub;
     let answer = started.answer;
     let end = call_line(out, at, answer);
@@ -303,7 +303,7 @@ fn start(state: State, table: &mut [u8], word: &[u8], out: &mut [u8], at: usize)
 }
 
 fn enrol(state: State, table: &mut [u8], node: u8, kind: u16, out: &mut [u8], at: usize) -> Played {
-    let answer = hub::enrol(table, node, kind);
+    let answer = host::enrol(table, node, kind);
     let end = call_line(out, at, answer);
     Played {
         state: state,
@@ -336,7 +336,7 @@ fn finish(state: State, session: u16, lent: usize, out: &mut [u8], at: usize) ->
     let readings = state.readings;
     let mut space = [FILLER; ROOM];
     let room: &mut [u8] = &mut space;
-    let finished = hub::finish(before, session, &mut room[0..lent]);
+    let finished = host::finish(before, session, &mut room[0..lent]);
     let next = finished.hub;
     let answer = finished.answer;
     let end = finish_line(out, at, answer, room);

@@ -12,7 +12,8 @@ ghost use Rattle.sessions.specs.Sessions.{closeAll};
 ghost use Rattle.directory.specs.declared.Verdict.the-variants.{Fits};
 ghost use Rattle.directory.specs.Lookup.{verdict};
 ghost use Rattle.rules.specs.Hub.{passwordSize, errorReply, enter, getNode, nodeReply, removeNodes, virginState, modeSend, request, mayAsk, serve};
-ghost use Rattle.requests.specs.Answers.{Replied, RepliedAt, Serves, Answered, changed, served, refusal};
+ghost use Rattle.calls.specs.Replies.{Replied, RepliedAt, Serves, Answered, changed, served, refusal};
+use calls::Served;
 use directory::Verdict;
 use frame::Written;
 use frame::WrittenAt;
@@ -25,12 +26,6 @@ const UNKNOWN_COMMAND: u8 = 1;
 const FRAME_ERROR: u8 = 2;
 
 const NOT_LOGGED_IN: u8 = 12;
-
-// The hub that serving leaves, and the length of the reply at the room's front.
-pub struct Served {
-    pub hub: Hub,
-    pub len: usize,
-}
 
 // A frame on a line. The call's refusals are judged before: with a table or room of another length nothing is served.
 pub fn serve(

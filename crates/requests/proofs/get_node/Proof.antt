@@ -1,4 +1,4 @@
-use Rattle.requests.specs.ReplyLaws.{both-replied, replied-length}
+use Rattle.calls.specs.ReplyLaws.{both-replied, replied-length}
 use Rattle.rules.specs.Hub.{getNode}
 use Rattle.nodes.specs.declared.Informed.{Informed}
 use Rattle.nodes.specs.TableLaws.{informed-known, informed-bytes, information-length, used-below}

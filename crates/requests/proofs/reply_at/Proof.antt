@@ -1,4 +1,4 @@
-use Rattle.requests.specs.ReplyLaws.{placed-replied, placed-not-unfit, placed-not-long}
+use Rattle.calls.specs.ReplyLaws.{placed-replied, placed-not-unfit, placed-not-long}
 use borrow.Author.Needs.{needs}
 use Rattle.requests.proofs.reply_at.Statement.{statement}
 use Rattle.requests.proofs.reply_at.Tie as tie

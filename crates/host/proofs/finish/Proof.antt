@@ -1,13 +1,13 @@
 use Rattle.sessions.specs.SessionLaws.{ended-open, ended-not-open}
-use Rattle.hub.proofs.Laws.{finish-short, finish-not-open, finish-done}
+use Rattle.host.proofs.Laws.{finish-short, finish-not-open, finish-done}
 use borrow.Author.Tests.{lt-ltb, le-ltb}
 use mathlib.Core.Path.{_≡_, refl, ap, _∙_, sym}
 use borrow.Author.Needs.{needs}
-use Rattle.hub.proofs.finish.Statement.{statement}
-use Rattle.hub.proofs.finish.Tie as tie
-use Rattle.hub.proofs.finish.Reads as reads
-use Rattle.hub.proofs.finish.Lts as lts
-use Rattle.hub.proofs.notice.Reads as notice-reads
+use Rattle.host.proofs.finish.Statement.{statement}
+use Rattle.host.proofs.finish.Tie as tie
+use Rattle.host.proofs.finish.Reads as reads
+use Rattle.host.proofs.finish.Lts as lts
+use Rattle.host.proofs.notice.Reads as notice-reads
 use Rattle.access.proofs.with_slots.Reads as with-slots-reads
 use Rattle.slots.proofs.finish.Reads as finish-reads
 

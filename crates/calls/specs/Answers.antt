@@ -11,18 +11,18 @@ use Rattle.feeds.specs.Service.{Got}
 use Rattle.rules.specs.declared.Hub.{Hub}
 use Rattle.rules.specs.Hub as rules
 use Rattle.rules.specs.Promises.{ClosedLine, FinishedSession}
-use Rattle.hub.specs.declared.Refusal.{Refusal}
-use Rattle.hub.specs.declared.Refusal.the-variants as cause
-use Rattle.hub.specs.declared.CallAnswer.{CallAnswer}
-use Rattle.hub.specs.declared.CallAnswer.the-variants as call
-use Rattle.hub.specs.declared.FinishAnswer.{FinishAnswer}
-use Rattle.hub.specs.declared.FinishAnswer.the-variants as finish
-use Rattle.hub.specs.declared.FeedAnswer.{FeedAnswer}
-use Rattle.hub.specs.declared.FeedAnswer.the-variants as feed
-use Rattle.hub.specs.declared.Started.{Started}
-use Rattle.hub.specs.declared.Closed.{Closed}
-use Rattle.hub.specs.declared.Finished.{Finished}
-use Rattle.hub.specs.declared.Fed.{Fed}
+use Rattle.calls.specs.declared.Refusal.{Refusal}
+use Rattle.calls.specs.declared.Refusal.the-variants as cause
+use Rattle.calls.specs.declared.CallAnswer.{CallAnswer}
+use Rattle.calls.specs.declared.CallAnswer.the-variants as call
+use Rattle.calls.specs.declared.FinishAnswer.{FinishAnswer}
+use Rattle.calls.specs.declared.FinishAnswer.the-variants as finish
+use Rattle.calls.specs.declared.FeedAnswer.{FeedAnswer}
+use Rattle.calls.specs.declared.FeedAnswer.the-variants as feed
+use Rattle.calls.specs.declared.Started.{Started}
+use Rattle.calls.specs.declared.Closed.{Closed}
+use Rattle.calls.specs.declared.Finished.{Finished}
+use Rattle.calls.specs.declared.Fed.{Fed}
 
 -- the number of each refusal
 abbrev pub number : Refusal → ℕ

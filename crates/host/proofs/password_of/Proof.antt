@@ -3,10 +3,10 @@ use Prim.Native.Nat.{ℕ}
 use lib.ListN.{replicate}
 use mathlib.Core.Path.{_≡_, _∙_}
 use borrow.Author.Needs.{needs}
-use Rattle.hub.proofs.password_of.Statement.{statement}
-use Rattle.hub.proofs.password_of.Tie as tie
-use Rattle.hub.proofs.password_of.Reads as reads
-use Rattle.hub.proofs.password_of.Lts as lts
+use Rattle.host.proofs.password_of.Statement.{statement}
+use Rattle.host.proofs.password_of.Tie as tie
+use Rattle.host.proofs.password_of.Reads as reads
+use Rattle.host.proofs.password_of.Lts as lts
 use Rattle.store.proofs.copy.Reads as copy-reads
 
 -- src/lib.rt:128:17

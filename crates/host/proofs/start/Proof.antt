@@ -1,12 +1,12 @@
 use borrow.Author.Tests.{eq-eqb, ne-eqb}
 use mathlib.Core.Path.{_≡_, refl}
 use borrow.Author.Needs.{needs}
-use Rattle.hub.proofs.start.Statement.{statement}
-use Rattle.hub.proofs.start.Tie as tie
-use Rattle.hub.proofs.start.Reads as reads
-use Rattle.hub.proofs.start.Lts as lts
-use Rattle.hub.proofs.fresh.Reads as fresh-reads
-use Rattle.hub.proofs.password_of.Reads as password-of-reads
+use Rattle.host.proofs.start.Statement.{statement}
+use Rattle.host.proofs.start.Tie as tie
+use Rattle.host.proofs.start.Reads as reads
+use Rattle.host.proofs.start.Lts as lts
+use Rattle.host.proofs.fresh.Reads as fresh-reads
+use Rattle.host.proofs.password_of.Reads as password-of-reads
 use Rattle.enrolment.proofs.empty.Reads as empty-reads
 
 -- src/lib.rt:104:9

@@ -9,7 +9,7 @@ use Rattle.frame.specs.Writing.{minRoom}
 use Rattle.nodes.specs.Table.{tableSize}
 use Rattle.rules.specs.declared.Hub.{Hub}
 use Rattle.rules.specs.Hub.{Reply, errorReply, frameError, passwordSize, Password, change}
-use Rattle.requests.specs.declared.Served.{Served}
+use Rattle.calls.specs.declared.Served.{Served}
 
 -- a reply stands at the room's front, its length is told, and what stood behind it stays
 pub record Replied (reply space : List ℕ) (n : ℕ) (left : List ℕ) : Type 0 where

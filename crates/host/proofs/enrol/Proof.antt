@@ -3,10 +3,10 @@ use mathlib.Core.List.{List}
 use borrow.Author.Tests.{eq-eqb, ne-eqb, lt-ltb, le-ltb}
 use mathlib.Core.Path.{sym, _∙_, refl, ap}
 use borrow.Author.Needs.{needs}
-use Rattle.hub.proofs.enrol.Statement.{statement}
-use Rattle.hub.proofs.enrol.Tie as tie
-use Rattle.hub.proofs.enrol.Reads as reads
-use Rattle.hub.proofs.enrol.Lts as lts
+use Rattle.host.proofs.enrol.Statement.{statement}
+use Rattle.host.proofs.enrol.Tie as tie
+use Rattle.host.proofs.enrol.Reads as reads
+use Rattle.host.proofs.enrol.Lts as lts
 use Rattle.enrolment.proofs.enrol.Reads as enrol-reads
 use Rattle.table.proofs.in_use.Reads as in-use-reads
 

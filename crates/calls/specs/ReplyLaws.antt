@@ -12,7 +12,7 @@ use Rattle.frame.specs.declared.Written.{Written}
 use Rattle.frame.specs.declared.Written.the-variants as written
 use Rattle.frame.specs.declared.WrittenAt.{WrittenAt}
 use Rattle.frame.specs.declared.WrittenAt.the-variants as at
-use Rattle.requests.specs.Answers.{Replied, RepliedAt}
+use Rattle.calls.specs.Replies.{Replied, RepliedAt}
 
 module _ (room d : List ℕ) (c : ℕ) (left : List ℕ) where
   -- a frame at the front

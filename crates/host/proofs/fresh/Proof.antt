@@ -1,9 +1,9 @@
 use mathlib.Core.Path.{_≡_}
 use borrow.Author.Needs.{needs}
-use Rattle.hub.proofs.fresh.Statement.{statement}
-use Rattle.hub.proofs.fresh.Tie as tie
-use Rattle.hub.proofs.fresh.Reads as reads
-use Rattle.hub.proofs.fresh.Lts as lts
+use Rattle.host.proofs.fresh.Statement.{statement}
+use Rattle.host.proofs.fresh.Tie as tie
+use Rattle.host.proofs.fresh.Reads as reads
+use Rattle.host.proofs.fresh.Lts as lts
 use Rattle.slots.proofs.none.Reads as none-reads
 
 -- src/lib.rt:91:9

@@ -1,12 +1,12 @@
 use native.Mathlib.Omega.{arith}
 use Rattle.rules.specs.Hub.{notice}
-use Rattle.requests.specs.ReplyLaws.{written-replied, written-not-short, written-not-long}
+use Rattle.calls.specs.ReplyLaws.{written-replied, written-not-short, written-not-long}
 use mathlib.Core.List.{[], _∷_}
 use borrow.Author.Needs.{needs}
-use Rattle.hub.proofs.notice.Statement.{statement}
-use Rattle.hub.proofs.notice.Tie as tie
-use Rattle.hub.proofs.notice.Reads as reads
-use Rattle.hub.proofs.notice.Lts as lts
+use Rattle.host.proofs.notice.Statement.{statement}
+use Rattle.host.proofs.notice.Tie as tie
+use Rattle.host.proofs.notice.Reads as reads
+use Rattle.host.proofs.notice.Lts as lts
 use Rattle.writer.proofs.write.Reads as write-reads
 
 -- src/lib.rt:232:9

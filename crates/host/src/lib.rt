@@ -1,0 +1,131 @@
+// The host's calls: the hub before any start, start, enrol, finish a session (document 01, "What the commands do").
+// State goes in and out by value; the node table and the reply room are lent. Each call's promise is the rule's in answer, hub,
+// table and every byte of the room, refusals included: crate rules, specs/Hub.antt, specs/Promises.antt.
+ghost use Prim.Native.Nat.{_≤_};
+ghost use mathlib.Core.Path.{_≡_};
+ghost use lib.ListN.{length};
+ghost use Rattle.frame.specs.Writing.{minRoom};
+ghost use Rattle.calls.specs.Replies.{Replied};
+ghost use Rattle.rules.specs.Hub.{freshHub, firstHub, passwordSize, notice};
+ghost use Rattle.rules.specs.Promises.{Starts, Enrols, Finishes};
+ghost use Rattle.calls.specs.Answers.{startedOf, enrolledOf, finishedOf};
+use calls::CallAnswer;
+use calls::FinishAnswer;
+use calls::Finished;
+use calls::Refusal;
+use calls::Started;
+use frame::Written;
+use rules::Hub;
+use sessions::Told;
+
+// The hub before any start.
+pub fn first() -> Hub
+    ensures { λ r. ⌜ r ≡ firstHub ⌝ }
+{
+    fresh([0u8; 32])
+}
+
+// A hub with a password, nobody logged in, no session.
+fn fresh(password: [u8; 32]) -> Hub
+    ensures { λ r. ⌜ r ≡ freshHub password ⌝ }
+{
+    let slots = slots::none();
+    Hub {
+        password: password,
+        logins: [false; 4],
+        slots: slots,
+    }
+}
+
+// Starts the hub anew: the table is zeroed.
+pub fn start(hub: Hub, table: &mut [u8], password: &[u8]) -> Started
+    ensures { λ r. ⌜ Starts hub (now (table .entry)) (now (password .entry)) (startedOf r (now (table .exit))) ⌝ }
+{
+    if table.len() != nodes::TABLE {
+        return Started {
+            answer: CallAnswer::Refused(Refusal::WrongTable),
+            hub: hub,
+        };
+    }
+    if password.len() != rules::PASSWORD {
+        return Started {
+            answer: CallAnswer::Refused(Refusal::WrongPassword),
+            hub: hub,
+        };
+    }
+    enrolment::empty(table);
+    let next = fresh(password_of(password));
+    Started {
+        answer: CallAnswer::Done,
+        hub: next,
+    }
+}
+
+fn password_of(password: &[u8]) -> [u8; 32]
+    requires { ⌜ length (now password) ≡ passwordSize ⌝ }
+    ensures { λ r. ⌜ r ≡ now (password .entry) ⌝ }
+{
+    let mut out = [0u8; 32];
+    store::copy(&mut out, 0, password);
+    out
+}
+
+// A node comes into use, with its type.
+pub fn enrol(table: &mut [u8], node: u8, kind: u16) -> CallAnswer
+    ensures { λ r. ⌜ Enrols (now (table .entry)) node kind (enrolledOf r (now (table .exit))) ⌝ }
+{
+    if table.len() != nodes::TABLE {
+        return CallAnswer::Refused(Refusal::WrongTable);
+    }
+    if nodes::NODES <= node as usize {
+        return CallAnswer::Refused(Refusal::WrongNode);
+    }
+    if table::in_use(table, node as usize) {
+        return CallAnswer::Refused(Refusal::NodeInUse);
+    }
+    enrolment::enrol(table, node, kind);
+    CallAnswer::Done
+}
+
+// A session is finished: frame 0304 with its number goes to its line.
+pub fn finish(hub: Hub, session: u16, room: &mut [u8]) -> Finished
+    ensures { λ r. ⌜ Finishes hub session (now (room .entry)) (finishedOf r (now (room .exit))) ⌝ }
+{
+    if room.len() < frame::ROOM {
+        return Finished {
+            answer: FinishAnswer::Refused(Refusal::ShortRoom),
+            hub: hub,
+        };
+    }
+    let opened = hub.slots;
+    let ended = slots::finish(opened, session);
+    let told = ended.told;
+    let slots = ended.slots;
+    match told {
+        Told::NotOpen => Finished {
+            answer: FinishAnswer::Refused(Refusal::NotOpen),
+            hub: hub,
+        },
+        Told::Line(line) => {
+            let len = notice(room, session);
+            let next = access::with_slots(hub, slots);
+            Finished {
+                answer: FinishAnswer::Finished { line, len },
+                hub: next,
+            }
+        }
+    }
+}
+
+// Frame 0304 with a session's number.
+fn notice(room: &mut [u8], session: u16) -> usize
+    requires { ⌜ minRoom ≤ length (now room) ⌝ }
+    ensures { λ r. ⌜ Replied (notice session) (now (room .entry)) r (now (room .exit)) ⌝ }
+{
+    let bytes = [(session / 256) as u8, (session % 256) as u8];
+    match writer::write(room, 0x0304, &bytes) {
+        Written::Length(n) => n,
+        Written::ShortRoom => 0,
+        Written::LongData => 0,
+    }
+}
