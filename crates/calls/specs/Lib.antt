@@ -1,3 +1,4 @@
 pub mod Answers
 pub mod Replies
 pub mod ReplyLaws
+pub mod Examples

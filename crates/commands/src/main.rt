@@ -16,8 +16,8 @@ fn write_entry(entry: Entry) -> bool {
 
 fn main() {
     let mut place = 0;
-    while place < directory::COUNT {
-        let Found::Listed(entry) = directory::entry_at(place) else {
+    while place < lookup::COUNT {
+        let Found::Listed(entry) = lookup::entry_at(place) else {
             return;
         };
         if !write_entry(entry) {

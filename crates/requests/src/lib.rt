@@ -69,7 +69,7 @@ fn judged(
     requires { ⌜ (length (now table) ≡ tableSize) × (minRoom ≤ length (now room)) ⌝ }
     ensures { λ r. ⌜ Serves (serve hub (now (table .entry)) line (frame command (now (payload .entry)))) (now (room .entry)) r (now (table .exit)) (now (room .exit)) ⌝ }
 {
-    match directory::judge(command, payload.len()) {
+    match lookup::judge(command, payload.len()) {
         Verdict::Unknown => {
             let n = fail(room, UNKNOWN_COMMAND);
             Served { hub: hub, len: n }

@@ -5,7 +5,7 @@ use Rattle.requests.proofs.judged.Statement.{statement}
 use Rattle.requests.proofs.judged.Tie as tie
 use Rattle.requests.proofs.judged.Reads as reads
 use Rattle.requests.proofs.judged.Lts as lts
-use Rattle.directory.proofs.judge.Reads as judge-reads
+use Rattle.lookup.proofs.judge.Reads as judge-reads
 use Rattle.requests.proofs.fail.Reads as fail-reads
 use Rattle.requests.proofs.may_ask.Reads as may-ask-reads
 use Rattle.requests.proofs.request.Reads as request-reads

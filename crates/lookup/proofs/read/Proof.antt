@@ -1,10 +1,10 @@
 use native.Mathlib.Omega.{arith}
 use borrow.Author.Needs.{needs}
 use Rattle.directory.specs.Directory.{directory}
 use Rattle.directory.specs.DirectoryLaws.{directory-count}
 use Rattle.directory.specs.CodeLaws.{read-there, read-command}
-use Rattle.directory.proofs.read.Statement.{statement}
-use Rattle.directory.proofs.read.Tie as tie
+use Rattle.lookup.proofs.read.Statement.{statement}
+use Rattle.lookup.proofs.read.Tie as tie
 
 mul-word : tie.Need-mul-word
 mul-word c = omega (arith, directory-count)

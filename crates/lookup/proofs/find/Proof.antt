@@ -4,12 +4,12 @@ use native.Mathlib.Numerals.{add-one}
 use native.Mathlib.Omega.{arith}
 use lib.ListN.{length, drop}
 use borrow.Author.Tests.{eq-eqb, ne-eqb}
 use Rattle.directory.specs.Directory.{directory}
 use Rattle.directory.specs.Lookup.{find}
 use Rattle.directory.specs.LookupLaws.{find-on, find-found, find-end}
 use Rattle.directory.specs.DirectoryLaws.{directory-count}
-use Rattle.directory.proofs.find.Statement.{statement}
-use Rattle.directory.proofs.find.Tie as tie
+use Rattle.lookup.proofs.find.Statement.{statement}
+use Rattle.lookup.proofs.find.Tie as tie
 
 -- What is to be found is found from the place on.
 abbrev Inv-loop : tie.InvT-loop

@@ -1,10 +1,10 @@
 use mathlib.Core.Path.{sym}
 use native.Mathlib.Omega.{arith}
 use Rattle.directory.specs.Directory.{directory}
 use Rattle.directory.specs.DirectoryLaws.{directory-count}
 use Rattle.directory.specs.LookupLaws.{getElem?-none}
-use Rattle.directory.proofs.entry_at.Statement.{statement}
-use Rattle.directory.proofs.entry_at.Tie as tie
+use Rattle.lookup.proofs.entry_at.Statement.{statement}
+use Rattle.lookup.proofs.entry_at.Tie as tie
 
 read-requires : tie.Need-read-requires
 read-requires c κs = omega (arith, directory-count)

@@ -3,11 +3,11 @@ use mathlib.Core.Option.{some}
 use native.Mathlib.Omega.{arith}
 use borrow.Author.Needs.{needs}
 use borrow.Author.Tests.{le-leb, lt-leb}
 use Rattle.directory.specs.Directory.{directory}
 use Rattle.directory.specs.Lookup.{find, verdictOf, verdict, told}
 use Rattle.directory.specs.DirectoryLaws.{verdict-found}
-use Rattle.directory.proofs.judge.Statement.{statement}
-use Rattle.directory.proofs.judge.Tie as tie
+use Rattle.lookup.proofs.judge.Statement.{statement}
+use Rattle.lookup.proofs.judge.Tie as tie
 
 -- the entry at hand is the one that is found
 found : (c : tie.After-entry) → find (c .before .before .before .args .command) directory ≡ some (c .entry .given .0 .0)
