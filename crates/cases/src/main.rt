@@ -185,14 +185,19 @@ fn cut(wire: Text, at: usize) -> Text {
     if len < at {
         return empty();
     }
-    let start = Run {
-        text: empty(),
-        reading: wire::emptied(),
-    };
-    let half = read_all(start, &bytes[0..at]);
-    let end = read_all(half, &bytes[at..len]);
-    let text = end.text;
-    let reading = end.reading;
+    let half = read_all(start(), &bytes[0..at]);
+    put_run_end(read_all(half, &bytes[at..len]))
+}
+
+fn start() -> Run {
+    let text = empty();
+    let reading = wire::emptied();
+    Run { text, reading }
+}
+
+fn put_run_end(run: Run) -> Text {
+    let text = run.text;
+    let reading = run.reading;
     put_reading(put_all(text, b" |"), reading)
 }
 
@@ -243,6 +248,9 @@ fn show_short() {
     show_case(b"P2", 0, b"\xC0\xC0");
     show_case(b"P7", 0, b"\xDB\xC0");
     show_case(b"ESC ESC", 0, b"\xDB\xDB\xC0");
+}
+
+fn show_escapes() {
     show_case(b"DC and DD outside an escape", 0, b"\xDC\xDD\xDC\xC0");
     show_case(
         b"escapes and an empty piece",
@@ -250,6 +258,9 @@ fn show_short() {
         b"\x01\xDB\xDC\xDB\xDD\x02\xC0\xC0\x03\xC0",
     );
     show_case(b"open in an escape", 0, b"\x01\xDB");
+}
+
+fn show_wrong_escape() {
     show_case(b"open after a wrong escape", 0, b"\x01\xDB\x02");
     show_case(
         b"wrong escape, then a frame's bytes",
@@ -262,9 +273,15 @@ fn show_long() {
     show_case(b"255 decoded bytes", 255, b"\xC0");
     show_case(b"256 decoded bytes", 256, b"\xC0");
     show_case(b"the 255th decoded byte escaped", 254, b"\xDB\xDC\xC0");
+}
+
+fn show_full() {
     show_case(b"ESC at 255, open", 255, b"\xDB");
     show_case(b"ESC at 255, then END", 255, b"\xDB\xC0");
     show_case(b"ESC at 255, then DC", 255, b"\xDB\xDC\xC0");
+}
+
+fn show_too_long() {
     show_case(b"ESC at 255, then another byte", 255, b"\xDB\xDE\xC0");
     show_case(
         b"256 bytes, then a frame's bytes",
@@ -281,13 +298,21 @@ fn show_record(mode: Mode, count: usize, wire: &[u8]) {
         count: count,
         mode: mode,
     };
+    let title = put_bytes(record_title(mode, count), wire);
+    let told = put_told(put_all(title, b":"), wire::read(lent, wire));
+    print(put_all(told, b"\n"));
+}
+
+fn record_title(mode: Mode, count: usize) -> Text {
     let claims = put_decimal(put_mode(put_all(empty(), b"record"), mode), count);
-    let reads = put_bytes(put_all(claims, b" reads "), wire);
-    let answer = wire::read(lent, wire);
+    put_all(claims, b" reads ")
+}
+
+fn put_told(text: Text, answer: line::Answer) -> Text {
     let outcome = answer.outcome;
     let after = answer.reading;
-    let told = put_outcome(put_all(reads, b":"), outcome, after);
-    print(put_all(put_reading(put_all(told, b" |"), after), b"\n"));
+    let told = put_outcome(text, outcome, after);
+    put_reading(put_all(told, b" |"), after)
 }
 
 // The same count in every mode.
@@ -325,9 +350,13 @@ fn put_written(text: Text, room: &[u8], n: usize) -> Text {
     }
     let wire = put_bytes(text, &room[0..n]);
     let behind = put_bytes(put_all(wire, b" then "), &room[n..]);
-    let answer = reader::read(reader::emptied(), &room[0..n]);
+    put_read_back(put_all(behind, b" reads"), &room[0..n])
+}
+
+fn put_read_back(text: Text, wire: &[u8]) -> Text {
+    let answer = reader::read(reader::emptied(), wire);
     let outcome = answer.outcome;
-    put_frame(put_all(behind, b" reads"), outcome)
+    put_frame(text, outcome)
 }
 
 fn put_answer(text: Text, answer: Written, room: &[u8]) -> Text {
@@ -357,16 +386,19 @@ fn show_short_room(n: usize) {
     if 251 < n {
         return;
     }
-    let title = put_all(put_decimal(put_all(empty(), b"room 511, data "), n), b": ");
     let answer = writer::write(&mut room, 0x0206, &payload[0..n]);
-    print(put_all(put_answer(title, answer, &room), b"\n"));
+    print(put_all(put_answer(room_title(n), answer, &room), b"\n"));
+}
+
+fn room_title(n: usize) -> Text {
+    put_all(put_decimal(put_all(empty(), b"room 511, data "), n), b": ")
 }
 
 fn put_place(text: Text, answer: WrittenAt) -> Text {
     match answer {
-        WrittenAt::UpTo(k) => put_decimal(put_all(text, b"up to "), k),
-        WrittenAt::NoFit => put_all(text, b"does not fit"),
-        WrittenAt::LongData => put_all(text, b"data too long"),
+        WrittenAt::UpTo(k) => put_all(put_decimal(put_all(text, b"up to "), k), b", room "),
+        WrittenAt::NoFit => put_all(text, b"does not fit, room "),
+        WrittenAt::LongData => put_all(text, b"data too long, room "),
     }
 }
 
@@ -377,11 +409,14 @@ fn show_at(start: usize, n: usize) {
     if 251 < n {
         return;
     }
-    let from = put_decimal(put_all(empty(), b"room 13, from "), start);
-    let title = put_all(put_decimal(put_all(from, b", data "), n), b": ");
     let answer = writer::write_at(&mut room, start, 0x0102, &payload[0..n]);
-    let told = put_all(put_place(title, answer), b", room ");
+    let told = put_place(place_title(start, n), answer);
     print(put_all(put_bytes(told, &room), b"\n"));
+}
+
+fn place_title(start: usize, n: usize) -> Text {
+    let from = put_decimal(put_all(empty(), b"room 13, from "), start);
+    put_all(put_decimal(put_all(from, b", data "), n), b": ")
 }
 
 fn show_frames() {
@@ -389,6 +424,9 @@ fn show_frames() {
     show_frame(b"data C0 C0", 0x0206, 0xC0, 2);
     show_frame(b"data DB DB", 0x0206, 0xDB, 2);
     show_frame(b"check byte C0", 0x0206, 0xC0, 1);
+}
+
+fn show_more_frames() {
     show_frame(b"check byte DB", 0x0206, 0xDB, 1);
     show_frame(b"command C0DB", 0xC0DB, 0, 0);
     show_frame(b"length byte C0", 0x0206, 0x55, 189);
@@ -410,10 +448,15 @@ fn show_limits() {
 
 fn main() {
     show_short();
+    show_escapes();
+    show_wrong_escape();
     show_long();
+    show_full();
+    show_too_long();
     show_counts(b"");
     show_counts(b"\xC0");
     show_counts(b"\xDC\xC0");
     show_frames();
+    show_more_frames();
     show_limits();
 }

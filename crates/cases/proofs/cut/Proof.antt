@@ -17,11 +17,8 @@ empty-requires-2 c κs = search needs
 returns-2 : tie.Need-returns-2
 returns-2 c = search needs
 
-empty-requires-3 : tie.Need-empty-requires-3
-empty-requires-3 c κs = search needs
-
-emptied-requires : tie.Need-emptied-requires
-emptied-requires c κs = search needs
+start-requires : tie.Need-start-requires
+start-requires c κs = search needs
 
 sub-read-all : tie.Need-sub-read-all
 sub-read-all c = search needs
@@ -30,7 +27,7 @@ part-read-all-start : tie.Need-part-read-all-start
 part-read-all-start c = search needs
 
 part-read-all-end : tie.Need-part-read-all-end
-part-read-all-end c = let l : length (c .before .before .before .before .before .before .args .wire .bytes) ≡ 600 = search needs in omega arith
+part-read-all-end c = let l : length (c .before .before .before .before .before .args .wire .bytes) ≡ 600 = search needs in omega arith
 
 read-all-requires : tie.Need-read-all-requires
 read-all-requires c κs = search needs
@@ -39,19 +36,13 @@ part-read-all-start-2 : tie.Need-part-read-all-start-2
 part-read-all-start-2 c = search needs
 
 part-read-all-end-2 : tie.Need-part-read-all-end-2
-part-read-all-end-2 c = let l : length (c .before .before .before .before .before .before .before .before .before .args .wire .bytes) ≡ 600 = search needs in omega arith
+part-read-all-end-2 c = let l : length (c .before .before .before .before .before .before .before .before .args .wire .bytes) ≡ 600 = search needs in omega arith
 
 read-all-requires-2 : tie.Need-read-all-requires-2
 read-all-requires-2 c κs = search needs
 
-slice-aggregate-put-all : tie.Need-slice-aggregate-put-all
-slice-aggregate-put-all c = search needs
-
-put-all-requires : tie.Need-put-all-requires
-put-all-requires c κs = search needs
-
-put-reading-requires : tie.Need-put-reading-requires
-put-reading-requires c κs = search needs
+put-run-end-requires : tie.Need-put-run-end-requires
+put-run-end-requires c κs = search needs
 
 returns-3 : tie.Need-returns-3
 returns-3 c = search needs
@@ -64,8 +55,7 @@ cut-spec =
     returns
     empty-requires-2
     returns-2
-    empty-requires-3
-    emptied-requires
+    start-requires
     sub-read-all
     part-read-all-start
     part-read-all-end
@@ -73,7 +63,5 @@ cut-spec =
     part-read-all-start-2
     part-read-all-end-2
     read-all-requires-2
-    slice-aggregate-put-all
-    put-all-requires
-    put-reading-requires
+    put-run-end-requires
     returns-3)
