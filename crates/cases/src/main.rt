@@ -1,5 +1,5 @@
 // Boundary cases, run and held to the file stdout: the line reader on wire bytes, whole and cut in two at every place,
-// and on records that claim too much; the frame writer at its limits, each frame that it writes read back.
+// and on records that claim too much; the frame writer at its limits, each frame that it writes read back; packets through their view.
 use frame::Written;
 use frame::WrittenAt;
 use libc::STDOUT_FILENO;
@@ -343,6 +343,18 @@ fn put_frame(text: Text, outcome: frame::Outcome) -> Text {
     }
 }
 
+// A command number and data.
+fn shown(command: u16, payload: &[u8]) -> Text {
+    let number = put_decimal(put_all(empty(), b" shows "), command as usize);
+    put_bytes(put_all(number, b" data "), payload)
+}
+
+// What the view of a packet shows.
+fn seen(packet: &[u8]) -> Text {
+    let v = view::show(packet);
+    shown(view::command(v), view::data(v))
+}
+
 // The first n bytes of the room, what stands behind them, and what reading them gives.
 fn put_written(text: Text, room: &[u8], n: usize) -> Text {
     if room.len() < n {
@@ -446,6 +458,27 @@ fn show_limits() {
     show_at(0, 251);
 }
 
+// A packet, and what its view shows.
+fn show_view(name: &[u8], packet: &[u8]) {
+    print(put_bytes(put_all(put_all(empty(), name), b": packet "), packet));
+    print(put_all(seen(packet), b"\n"));
+}
+
+fn show_views() {
+    show_view(b"P3", b"\x00\x03\x00\x01\x02");
+    show_view(b"P4", b"\x00\x05\x02\x06\xC0\x00\xC1");
+    show_view(b"P5", b"\x00\x05\x02\x06\xC1\x00\xC0");
+    show_view(b"P6", b"\x00\x05\x02\x06\xDB\x00\xDA");
+}
+
+// Refused packets.
+fn show_empty_views() {
+    show_view(b"P8", b"\x00\x03\x00\x03");
+    show_view(b"P9", b"\x01\x03\x00\x01\x03");
+    show_view(b"P10", b"\x00\x04\x00\x01\x05");
+    show_view(b"P11", b"\x00\x03\x00\x01\x03");
+}
+
 fn main() {
     show_short();
     show_escapes();
@@ -459,4 +492,6 @@ fn main() {
     show_frames();
     show_more_frames();
     show_limits();
+    show_views();
+    show_empty_views();
 }

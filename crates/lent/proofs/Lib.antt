@@ -1,0 +1,3 @@
+pub mod Part
+pub mod Back
+pub mod OnRecord

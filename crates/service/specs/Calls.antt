@@ -1,0 +1,52 @@
+-- Calls on lent records, one after another: each gets the hub, the one table and its line's own record as the last one left them. What is
+-- kept between calls, what each is lent and what is compared of it are those of crates feeds (Service) and rules (Steps).
+use Prim.Native.Nat.{ℕ}
+use mathlib.Core.List.{List, [], _∷_}
+use lib.ListN.{set}
+use Rattle.line.specs.declared.Reading.{Reading}
+use Rattle.feeds.specs.Service.{Lent, Got, recordFor, leftBy}
+use Rattle.rules.specs.Hub.{hub}
+use Rattle.demands.specs.Steps.{Memory, Step, close, feed, Return, closed, fed, lineRecord, Made}
+use Rattle.calls.specs.Answers.{closedOf, fedOf}
+use Rattle.service.specs.declared.ClosedLent.{ClosedLent}
+use Rattle.service.specs.declared.FedLent.{FedLent}
+use Rattle.service.specs.Answers.{closedAnswer, ClosesLent, fedAnswer, FeedsLent}
+
+-- what a feed gives back: its answer and the hub, and table, record and room where they lie
+pub record Back : Type 0 where
+  pub given : FedLent
+  pub table : List ℕ
+  pub reading : Reading
+  pub room : List ℕ
+
+abbrev pub gotOf : Back → Got hub
+gotOf o = fedOf (fedAnswer (o .given) (o .reading)) (o .table) (o .room)
+
+-- a feed: the relation in the `ensures` of `feed`
+abbrev pub FedOn : Memory → Lent → Back → Type 0
+FedOn m g o = FeedsLent (m .hub) (m .table) (recordFor hub m g) (g .line) (g .bytes) (g .room) (o .given) (o .table) (o .reading) (o .room)
+
+-- feeds one after another
+pub data Run : Memory → List Lent → List Back → Memory → Type 0 where
+  stop : {m : Memory} → Run m [] [] m
+  next : {m e : Memory} {g : Lent} {gs : List Lent} {o : Back} {os : List Back} → FedOn m g o → Run (leftBy hub m g (gotOf o)) gs os e → Run m (g ∷ gs) (o ∷ os) e
+
+-- a list of feeds that was run
+pub record Feeds : Type 0 where
+  pub start : Memory
+  pub lent : List Lent
+  pub back : List Back
+  pub end : Memory
+  pub run : Run start lent back end
+
+-- one call of any kind: the host's, which are lent no record, are as they were; close and feed keep the relations in their `ensures`
+pub data Call : Memory → Step → Return → Memory → Type 0 where
+  host : {m v : Memory} {s : Step} {o : Return} → Made m s o v → Call m s o v
+  closes : {m : Memory} {l : ℕ} {spare : Reading} (r : ClosedLent) (e : Reading) → ClosesLent (m .hub) (lineRecord m l spare) l r e
+      → Call m (close l spare) (closed (closedOf (closedAnswer r e))) (record { hub = r .hub; table = m .table; records = set (m .records) l e })
+  feeds : {m : Memory} {g : Lent} (o : Back) → FedOn m g o → Call m (feed g) (fed (gotOf o)) (leftBy hub m g (gotOf o))
+
+-- calls one after another
+pub data Calls : Memory → List Step → List Return → Memory → Type 0 where
+  stop : {m : Memory} → Calls m [] [] m
+  next : {m v e : Memory} {s : Step} {ss : List Step} {o : Return} {os : List Return} → Call m s o v → Calls v ss os e → Calls m (s ∷ ss) (o ∷ os) e
