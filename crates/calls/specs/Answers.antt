@@ -3,8 +3,7 @@ use Prim.Native.Nat.{ℕ, _≤_}
 use mathlib.Core.List.{List}
 use mathlib.Core.Option.{Option, none, some}
 use Rattle.line.specs.declared.Reading.{Reading}
-use Rattle.line.specs.Reader.{limit}
-use Rattle.line.specs.Answers.{Clear}
+use Rattle.frame.specs.Line.{limit, Clear}
 use Rattle.frame.specs.Answers as outcome
 use Rattle.feeds.specs.System as feeds
 use Rattle.feeds.specs.Service.{Got}

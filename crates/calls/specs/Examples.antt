@@ -1,6 +1,6 @@
 -- What is served and answered with a table or room of another length, computed.
 use mathlib.Core.Path.{_≡_, refl}
-use mathlib.Core.List.{List, [], _∷_, map}
+use mathlib.Core.List.{[], _∷_, map}
 use lib.ListN.{replicate}
 use Rattle.frame.specs.Frame.{wire, escape, framed, body}
 use Rattle.frame.specs.Xor as xor

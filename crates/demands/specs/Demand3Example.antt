@@ -9,7 +9,7 @@ use native.Mathlib.Omega.{arith}
 use lib.ListN.{replicate}
 use Rattle.line.specs.declared.Mode.the-variants.{Escaped}
 use Rattle.line.specs.declared.Reading.{Reading}
-use Rattle.line.specs.Reader as line
+use Rattle.frame.specs.Line as line
 use Rattle.frame.specs.Frame as frames
 use Rattle.frame.specs.Frame.{frame, wire, framed, body, judge}
 use Rattle.frame.specs.Reading.{END, escape, onward, scan, emptied, emptiedReading, inner, verdict, step}

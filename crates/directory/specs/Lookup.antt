@@ -30,12 +30,6 @@ verdictOf (some e) len = cond (inRange e len) Fits WrongLength
 unfoldable pub verdict : ℕ → ℕ → Verdict
 verdict command len = verdictOf (find command directory) len
 
--- the error byte that each verdict is answered with
-abbrev pub errorByte : Verdict → Option ℕ
-errorByte Unknown = some 1
-errorByte WrongLength = some 2
-errorByte Fits = none
-
 -- the entry that an answer tells
 abbrev pub told : Found → Option Entry
 told (Listed e) = some e

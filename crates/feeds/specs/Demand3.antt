@@ -8,7 +8,7 @@ use mathlib.Core.List.{List, [], _∷_, _++_, map}
 use native.Mathlib.Omega.{arith}
 use lib.ListN.{length, getD, length-map, List·getD-map}
 use Rattle.line.specs.declared.Reading.{Reading}
-use Rattle.line.specs.Pieces.{closed, pieceOutcomes, written}
+use Rattle.frame.specs.Line.{closed, pieceOutcomes, written}
 use Rattle.frame.specs.Frame.{Refusal, Outcome, refused}
 use Rattle.frame.specs.Reading.{END, escape, outcomes, State, taken, emptied, emptiedReading, judged, step}
 use Rattle.frame.specs.ReadingLaws.{by-pieces-taken}

@@ -6,7 +6,7 @@ use mathlib.Core.List.{List, [], _∷_, _++_}
 use mathlib.Core.Option.{Option, none, some}
 use lib.Dec.{ltb}
 use native.Mathlib.Omega.{arith}
-use Rattle.line.specs.Reader as line
+use Rattle.frame.specs.Line as line
 use Rattle.frame.specs.Xor.{_⊕_, xorAll}
 use Rattle.frame.specs.Frame as packet
 use Rattle.frame.specs.Frame.{Outcome, frame, judge}

@@ -1,22 +1,16 @@
 -- Every list of feeds can be run, whatever the hub: the promise of feed can be kept whatever is lent.
-use Prim.Native.Nat.{ℕ, _-_, _≤_}
+use Prim.Native.Nat.{ℕ, _-_}
 use mathlib.Core.Path.{_≡_, refl, sym, ap, _∙_}
-use mathlib.Core.Bool.{Bool, true, false, cond}
+use mathlib.Core.Bool.{Bool}
 use mathlib.Core.List.{List, [], _∷_, _++_, map, append-nil, flatten}
 use mathlib.Core.Option.{Option, none, some}
 use native.Mathlib.Omega.{arith}
-use lib.ListN.{length, drop, replicate, length-append, length-replicate}
-use lib.Seq.{take-append-seam}
-use lib.Dec.{ltb, eqb}
-use borrow.Author.Tests.{ltb-true, le-ltb}
-use Rattle.line.specs.declared.Mode.{Mode}
-use Rattle.line.specs.declared.Mode.the-variants.{Plain, Escaped, Skipping}
+use lib.ListN.{length, drop, replicate, length-replicate}
 use Rattle.line.specs.declared.Reading.{Reading}
-use Rattle.line.specs.Wire.{ESC-END, ESC-ESC}
-use Rattle.line.specs.Reader as line
-use Rattle.line.specs.PieceLaws.{taken-held}
 use Rattle.frame.specs.Frame.{Outcome}
-use Rattle.frame.specs.Reading.{END, ESC, onward, scan, State, plain, escaped, skipping, emptied, emptiedReading, held, inner, taken, step, read}
+use Rattle.frame.specs.Line.{taken-held, recordOf, taken-record}
+use Rattle.frame.specs.ReadingLaws.{read-held}
+use Rattle.frame.specs.Reading.{State, emptied, emptiedReading, taken, read}
 use Rattle.feeds.specs.System.{Entry, System, World, Called, settled, call}
 use Rattle.feeds.specs.Service.{Lent, Got, Memory, entryOf, worldOf, Promise, recordFor, leftBy, Run, stop, next, Feeds, entriesIn, usedIn}
 use Rattle.feeds.specs.Marks.{answersOf, usedOn, unmarked}
@@ -29,66 +23,6 @@ use Rattle.feeds.specs.CallLaws.{call-refused, call-read, answer-refused
 -- None is not some.
 none-some : {A : Type 0} {P : Type 0} {o : Option A} {a : A} → o ≡ none → o ≡ some a → P
 none-some p q = let z : _≡_ {A = ℕ} 0 1 = cc in absurd (omega arith)
-
--- A record with these bytes held, and zeros beyond.
-padded : List ℕ → Mode → Reading
-padded h m = record { bytes = h ++ replicate (line.limit - length h) 0; count = length h; mode = m }
-
--- A record in a state.
-recordOf : State → Reading
-recordOf (plain h) = padded h Plain
-recordOf (escaped h) = padded h Escaped
-recordOf (skipping f) = padded [] (Skipping f)
-
--- It is taken as that state.
-taken-record : (s : State) → length (held s) ≤ line.limit → taken (recordOf s) ≡ s
-unfolding recordOf padded
-taken-record (plain h) x = rw (le-ltb line.limit (length h) x, take-append-seam h (replicate (line.limit - length h) 0))
-taken-record (escaped h) x = rw (le-ltb line.limit (length h) x, take-append-seam h (replicate (line.limit - length h) 0))
-taken-record (skipping f) x = refl
-
--- A byte more, and no more than 255 are held.
-decoded-held : (h : List ℕ) (b : ℕ) → length h ≤ line.limit → length (held (line.decoded h b)) ≤ line.limit
-unfolding line.decoded
-decoded-held h b x = go (ltb (length h) line.limit) refl
-  where
-    go : (t : Bool) → ltb (length h) line.limit ≡ t → length (held (cond t (plain (h ++ b ∷ [])) (skipping (line.tooLong h)))) ≤ line.limit
-    go true p = omega (arith, ltb-true, length-append h (b ∷ []))
-    go false p = omega arith
-
--- One of two states.
-cond-held : (t : Bool) (s v : State) → length (held s) ≤ line.limit → length (held v) ≤ line.limit → length (held (cond t s v)) ≤ line.limit
-cond-held true s v x y = x
-cond-held false s v x y = y
-
--- A byte that is no END.
-inner-held : (s : State) (b : ℕ) → length (held s) ≤ line.limit → length (held (inner s b)) ≤ line.limit
-unfolding inner
-inner-held (plain h) b x = cond-held (eqb b ESC) (escaped h) (line.decoded h b) x (decoded-held h b x)
-inner-held (escaped h) b x =
-    cond-held (eqb b ESC-END) (line.decoded h END) (cond (eqb b ESC-ESC) (line.decoded h ESC) (skipping (line.wrongEscape h))) (decoded-held h END x)
-    (cond-held (eqb b ESC-ESC) (line.decoded h ESC) (skipping (line.wrongEscape h)) (decoded-held h ESC x) (omega arith))
-inner-held (skipping f) b x = omega arith
-
--- Any byte.
-step-held : (s : State) (b : ℕ) → length (held s) ≤ line.limit → length (held (step s b .0)) ≤ line.limit
-unfolding step line.step
-step-held s b x = go (eqb b END)
-  where
-    go : (t : Bool) → length (held (cond {A = State × Option line.Outcome} t (emptied, line.close s) (inner s b, none) .0)) ≤ line.limit
-    go true = omega arith
-    go false = inner-held s b x
-
--- A call leaves no more than 255 bytes held.
-read-held : (s : State) (w : List ℕ) → length (held s) ≤ line.limit → length (held (read s w .after)) ≤ line.limit
-unfolding scan onward
-read-held s [] x = x
-read-held s (b ∷ w) x = go (step s b .1) (read-held (step s b .0) w (step-held s b x))
-  where
-    go : (o : Option Outcome) → length (held (read (step s b .0) w .after)) ≤ line.limit
-        → length (held (onward (step s b .0) o (read (step s b .0) w) .after)) ≤ line.limit
-    go none ih = ih
-    go (some o) ih = step-held s b x
 
 -- What is lent for an entry.
 lentOf : Entry → Lent

@@ -8,7 +8,7 @@ use lib.ListN.{replicate}
 use native.Mathlib.Omega.{arith}
 use Rattle.line.specs.declared.Reading.{Reading}
 use Rattle.line.specs.declared.Mode.the-variants.{Plain, Escaped}
-use Rattle.line.specs.Reader as line
+use Rattle.frame.specs.Line as line
 use Rattle.frame.specs.Xor.{_⊕_, xorAll}
 use Rattle.frame.specs.Frame as packet
 use Rattle.frame.specs.Frame.{frame, judge}

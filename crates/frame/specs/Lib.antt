@@ -1,6 +1,7 @@
 pub mod Xor
 pub mod Frame
 pub mod Reading
+pub mod Line
 pub mod Answers
 pub mod Writing
 pub mod Code

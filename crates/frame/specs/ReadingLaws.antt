@@ -16,9 +16,10 @@ use Rattle.line.specs.Reader as line
 use Rattle.line.specs.ReaderLaws as line-laws
 use Rattle.line.specs.Pieces.{closed, last, decode, pieceOutcomes, written, NoEnd}
 use Rattle.line.specs.ByPieces as line-pieces
+use Rattle.line.specs.HeldLaws as line-held
 use Rattle.frame.specs.Frame.{Refusal, Outcome, frame, refused, maxData, judge}
 use Rattle.frame.specs.JudgeLaws.{judge-accepted, refused-number, accepted-data}
-use Rattle.frame.specs.Reading.{END, escape, also, onward, outcomes, final, scan, State, plain, escaped, skipping, emptied, inner, inside, taken, Scan, judged, verdict, step, read}
+use Rattle.frame.specs.Reading.{END, escape, also, onward, outcomes, final, scan, State, plain, escaped, skipping, emptied, held, inner, inside, taken, Scan, judged, verdict, step, read}
 pub use Rattle.line.specs.ScanLaws.{also-append, outcomes-append, final-append, Tells, scan-tells, used-within, used-some, used-all}
 
 -- ---- by the line reader's outcomes
@@ -201,3 +202,7 @@ read-data s w {c} {d} e =
     let (t, r) = read-told s w (frame c d) e in
     let (h, p, q) = closed-frame t r in
     accepted-data h q
+
+-- a call leaves no more than 255 bytes held
+pub read-held : (s : State) (w : List ℕ) → length (held s) ≤ line.limit → length (held (read s w .after)) ≤ line.limit
+read-held s w x = rw (read-judged s w) (line-held.read-held s w x)

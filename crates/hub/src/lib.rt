@@ -4,7 +4,7 @@
 ghost use Prim.Native.Nat.{_≤_};
 ghost use mathlib.Core.Path.{_≡_};
 ghost use lib.ListN.{length};
-ghost use Rattle.line.specs.Reader.{limit};
+ghost use Rattle.frame.specs.Line.{limit};
 ghost use Rattle.frame.specs.Answers.{told, Within};
 ghost use Rattle.frame.specs.Writing.{minRoom};
 ghost use Rattle.nodes.specs.Table.{tableSize};

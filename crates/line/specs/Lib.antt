@@ -10,3 +10,4 @@ pub mod ReaderLaws
 pub mod PieceLaws
 pub mod ByPieces
 pub mod CallLaws
+pub mod HeldLaws

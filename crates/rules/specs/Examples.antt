@@ -2,7 +2,7 @@
 use Prim.Native.Nat.{ℕ}
 use mathlib.Core.Path.{_≡_, refl}
 use mathlib.Core.List.{List, [], _∷_, map}
-use Rattle.line.specs.Reader as line
+use Rattle.frame.specs.Line as line
 use Rattle.frame.specs.Frame.{Outcome, frame, refused, wire, escape, framed, body, judge, tooShort, wrongProtocol, wrongLength, wrongCheck}
 use Rattle.frame.specs.Reading.{emptied, outcomes, step, verdict, inner}
 use Rattle.frame.specs.Xor as xor

@@ -1,5 +1,5 @@
 -- Calls on lent records, one after another: each gets the hub, the one table and its line's own record as the last one left them. What is
--- kept between calls, what each is lent and what is compared of it are those of crates feeds (Service) and rules (Steps).
+-- kept between calls, what each is lent and what is compared of it are those of crates feeds (Service) and demands (Steps).
 use Prim.Native.Nat.{ℕ}
 use mathlib.Core.List.{List, [], _∷_}
 use lib.ListN.{set}
@@ -39,7 +39,7 @@ pub record Feeds : Type 0 where
   pub end : Memory
   pub run : Run start lent back end
 
--- one call of any kind: the host's, which are lent no record, are as they were; close and feed keep the relations in their `ensures`
+-- one call of any kind: close and feed keep the relations in their `ensures`; any other, the host's, is as it is made by value
 pub data Call : Memory → Step → Return → Memory → Type 0 where
   host : {m v : Memory} {s : Step} {o : Return} → Made m s o v → Call m s o v
   closes : {m : Memory} {l : ℕ} {spare : Reading} (r : ClosedLent) (e : Reading) → ClosesLent (m .hub) (lineRecord m l spare) l r e

@@ -1,7 +1,5 @@
 use Rattle.sessions.specs.SessionLaws.{ended-open, ended-not-open}
 use Rattle.host.proofs.Laws.{finish-short, finish-not-open, finish-done}
-use borrow.Author.Tests.{lt-ltb, le-ltb}
-use mathlib.Core.Path.{_≡_, refl, ap, _∙_, sym}
 use borrow.Author.Needs.{needs}
 use Rattle.host.proofs.finish.Statement.{statement}
 use Rattle.host.proofs.finish.Tie as tie

@@ -1,4 +1,3 @@
-use mathlib.Core.Path.{_≡_}
 use borrow.Author.Needs.{needs}
 use Rattle.host.proofs.fresh.Statement.{statement}
 use Rattle.host.proofs.fresh.Tie as tie

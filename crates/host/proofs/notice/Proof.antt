@@ -1,7 +1,6 @@
 use native.Mathlib.Omega.{arith}
 use Rattle.rules.specs.Hub.{notice}
 use Rattle.calls.specs.ReplyLaws.{written-replied, written-not-short, written-not-long}
-use mathlib.Core.List.{[], _∷_}
 use borrow.Author.Needs.{needs}
 use Rattle.host.proofs.notice.Statement.{statement}
 use Rattle.host.proofs.notice.Tie as tie

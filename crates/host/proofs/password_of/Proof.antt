@@ -1,7 +1,5 @@
 use Rattle.store.specs.WroteLaws.{sets-whole}
-use Prim.Native.Nat.{ℕ}
-use lib.ListN.{replicate}
-use mathlib.Core.Path.{_≡_, _∙_}
+use mathlib.Core.Path.{_∙_}
 use borrow.Author.Needs.{needs}
 use Rattle.host.proofs.password_of.Statement.{statement}
 use Rattle.host.proofs.password_of.Tie as tie

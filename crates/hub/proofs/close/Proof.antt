@@ -1,9 +1,6 @@
 use Rattle.hub.proofs.Laws.{close-wrong, close-done}
 use Rattle.frame.specs.Reading.{taken}
-use borrow.Author.Tests.{lt-ltb, le-ltb}
 use native.Mathlib.Omega.{arith}
-use Prim.Native.Nat.{ℕ}
-use mathlib.Core.Path.{_≡_, refl, ap, _∙_}
 use borrow.Author.Needs.{needs}
 use Rattle.hub.proofs.close.Statement.{statement}
 use Rattle.hub.proofs.close.Tie as tie

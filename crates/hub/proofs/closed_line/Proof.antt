@@ -1,4 +1,3 @@
-use mathlib.Core.Path.{_≡_}
 use borrow.Author.Needs.{needs}
 use Rattle.hub.proofs.closed_line.Statement.{statement}
 use Rattle.hub.proofs.closed_line.Tie as tie

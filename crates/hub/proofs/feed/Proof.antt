@@ -2,7 +2,6 @@ use Rattle.hub.proofs.Laws.{refused-promise, served-promise}
 use Rattle.rules.specs.Refusals.{refused-table, refused-line, refused-room, not-refused}
 use lib.ListN.{length}
 use native.Mathlib.Omega.{arith}
-use mathlib.Core.Path.{_≡_}
 use borrow.Author.Needs.{needs}
 use Rattle.hub.proofs.feed.Statement.{statement}
 use Rattle.hub.proofs.feed.Tie as tie

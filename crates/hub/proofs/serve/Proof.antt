@@ -1,4 +1,3 @@
-use lib.ListN.{length, take, drop}
 use Rattle.rules.specs.Hub.{serve}
 use Rattle.feeds.specs.System.{serveIf}
 use borrow.Author.Tests.{eq-eqb, le-leb}

@@ -1,6 +1,5 @@
 use Rattle.sessions.specs.SessionLaws.{closeAll-free}
-use Rattle.sessions.specs.Sessions.{closedSlot, closeAll}
-use lib.ListN.{length, replicate}
+use lib.ListN.{length}
 use mathlib.Core.Path.{_≡_, _∙_, sym}
 use borrow.Author.Needs.{needs}
 use Rattle.requests.proofs.close_all.Statement.{statement}

@@ -1,8 +1,7 @@
 use Rattle.rules.specs.Hub.{passwordSize}
 use native.Mathlib.Omega.{arith}
-use native.Mathlib.Nat.{le-refl}
 use lib.Seq.{take-all}
-use mathlib.Core.Path.{_∙_, refl, _≡_}
+use mathlib.Core.Path.{_∙_}
 use borrow.Author.Needs.{needs}
 use Rattle.requests.proofs.enter.Statement.{statement}
 use Rattle.requests.proofs.enter.Tie as tie

@@ -1,6 +1,6 @@
 use Rattle.rules.specs.Hub.{passwordSize}
 use Rattle.store.specs.WroteLaws.{sets-whole}
-use lib.ListN.{length, take, drop, replicate, length-take, length-drop}
+use lib.ListN.{length, take, drop, length-take, length-drop}
 use native.Mathlib.Omega.{arith}
 use Prim.Native.Nat.{_+_, _-_}
 use mathlib.Core.Path.{_≡_, _∙_}

@@ -1,5 +1,4 @@
 use Rattle.calls.specs.ReplyLaws.{written-replied, written-not-short, written-not-long}
-use mathlib.Core.Path.{_≡_}
 use borrow.Author.Needs.{needs}
 use Rattle.requests.proofs.reply.Statement.{statement}
 use Rattle.requests.proofs.reply.Tie as tie

@@ -1,10 +1,9 @@
 use Rattle.requests.proofs.Laws.{enter-size, change-size, get-size, variation-size, name-size, order-size, mode-send-size, getNode-kept}
 use Rattle.rules.specs.Hub.{request, modeSend}
 use borrow.Author.Tests.{ne-eqb}
-use lib.ListN.{length, getD}
+use lib.ListN.{getD}
 use native.Mathlib.Omega.{arith}
-use Prim.Native.Nat.{_≤_}
-use mathlib.Core.Path.{_≡_, refl, sym, _∙_}
+use mathlib.Core.Path.{refl, sym, _∙_}
 use borrow.Author.Needs.{needs}
 use Rattle.requests.proofs.request.Statement.{statement}
 use Rattle.requests.proofs.request.Tie as tie
