@@ -35,6 +35,7 @@ pub fn taken_at(place: Place) -> Place
     }
 }
 
+// What one byte asks for, where so many bytes are held.
 pub fn decide(mode: Mode, count: usize, b: u8) -> Action
     ensures { λ r. ⌜ Acts count (stepping mode b) r ⌝ }
 {

@@ -2,14 +2,19 @@
 use Prim.Native.Nat.{ℕ, _+_, _*_, _≤_}
 use mathlib.Core.Path.{_≡_, refl, ap, _∙_}
 use mathlib.Core.List.{List, [], _∷_, _++_, append-assoc}
+use mathlib.Core.Bool.{Bool, true, false, cond}
+use mathlib.Core.Option.{Option, none, some}
 use native.Mathlib.Omega.{arith}
-use lib.ListN.{length, length-append}
+use lib.ListN.{length, drop, length-append}
+use lib.Dec.{ltb}
 use Rattle.line.specs.Wire.{END, escape}
 use Rattle.line.specs.WireLaws.{escape-append, escape-short}
 use Rattle.frame.specs.Xor.{_⊕_, xorAll}
 use Rattle.frame.specs.XorLaws.{xorAll-append}
 use Rattle.frame.specs.Frame.{maxData, body, framed, wire}
-use Rattle.frame.specs.Writing.{minRoom}
+use Rattle.frame.specs.declared.Written.{Written}
+use Rattle.frame.specs.declared.Written.the-variants as written
+use Rattle.frame.specs.Writing.{minRoom, refusalOf, Wire, write}
 use Rattle.frame.specs.Code.{header}
 
 -- the check byte, from the header's and the data's
@@ -42,3 +47,15 @@ wire-short c d =
 -- the longest wire form fits the least room
 pub wire-fits : (c : ℕ) (d : List ℕ) → length d ≤ maxData → length (wire c d) ≤ minRoom
 wire-fits c d h = omega (arith, wire-short c d)
+
+-- writing is refused by document 01's numbers: 9 for room below 512 bytes, then 10 for data above 250
+pub write-refusal : (room : List ℕ) (c : ℕ) (d : List ℕ) → refusalOf (write room c d .answer) ≡ cond (ltb (length room) 512) (some 9) (cond (ltb 250 (length d)) (some 10) none)
+unfolding write
+write-refusal room c d = go (ltb (length room) minRoom) (ltb maxData (length d))
+  where
+    go : (a b : Bool)
+        → refusalOf (cond {A = Wire Written} a (record { answer = written.ShortRoom; room = room }) (cond b (record { answer = written.LongData; room = room }) (record { answer = written.Length (length (wire c d)); room = wire c d ++ drop (length (wire c d)) room })) .answer)
+        ≡ cond a (some 9) (cond b (some 10) none)
+    go true b = refl
+    go false true = refl
+    go false false = refl

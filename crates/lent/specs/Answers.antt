@@ -9,19 +9,19 @@ use Rattle.line.specs.Answers as line-answers
 use Rattle.frame.specs.declared.Answer as frame
 use Rattle.frame.specs.Reading as framer
 use Rattle.frame.specs.Answers as frame-answers
-use Rattle.lent.specs.declared.LineTold.{LineTold}
+use Rattle.lent.specs.declared.PacketTold.{PacketTold}
 use Rattle.lent.specs.declared.FrameTold.{FrameTold}
 
--- of a line
-abbrev pub lineTold : line.Answer → LineTold
-lineTold a = record { used = a .used; outcome = a .outcome }
+-- of packets
+abbrev pub packetTold : line.Answer → PacketTold
+packetTold a = record { used = a .used; outcome = a .outcome }
 
-abbrev pub lineAnswer : LineTold → Reading → line.Answer
-lineAnswer t e = record { used = t .used; outcome = t .outcome; reading = e }
+abbrev pub packetAnswer : PacketTold → Reading → line.Answer
+packetAnswer t e = record { used = t .used; outcome = t .outcome; reading = e }
 
 -- the record s is lent, and lies as e afterwards
-abbrev pub ReadsLine : Reading → List ℕ → LineTold → Reading → Type 0
-ReadsLine s w t e = line-answers.Answers (reader.read (line-answers.taken s) w) (lineAnswer t e)
+abbrev pub ReadsPacket : Reading → List ℕ → PacketTold → Reading → Type 0
+ReadsPacket s w t e = line-answers.Answers (reader.read (line-answers.taken s) w) (packetAnswer t e)
 
 -- of frames
 abbrev pub frameTold : frame.Answer → FrameTold

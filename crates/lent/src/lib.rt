@@ -1,11 +1,11 @@
 // The reader on a lent record: the serial service keeps one reading per line, lends it, and the call changes it where it lies
 // (document 01, "From wire to packet"). Each call promises what the call by value does: specs/Answers.antt.
 ghost use mathlib.Core.Path.{_≡_};
-ghost use Rattle.lent.specs.Answers.{lineTold, ReadsLine, frameTold, ReadsFrame};
+ghost use Rattle.lent.specs.Answers.{packetTold, ReadsPacket, frameTold, ReadsFrame};
 use line::Reading;
 
-// What reading a line tells apart from the record.
-pub struct LineTold {
+// What reading packets tells apart from the record.
+pub struct PacketTold {
     pub used: usize,
     pub outcome: line::Outcome,
 }
@@ -17,14 +17,15 @@ pub struct FrameTold {
 }
 
 // Reads to the end of the first outcome or of the bytes.
-pub fn read_line(reading: &mut Reading, wire: &[u8]) -> LineTold
-    ensures { λ r. ⌜ ReadsLine (now (reading .entry)) (now (wire .entry)) r (now (reading .exit)) ⌝ }
+pub fn read_packet(reading: &mut Reading, wire: &[u8]) -> PacketTold
+    ensures { λ r. ⌜ ReadsPacket (now (reading .entry)) (now (wire .entry)) r (now (reading .exit)) ⌝ }
 {
     let packet = wire::read(*reading, wire);
-    *reading = line_record(packet);
-    line_told(packet)
+    *reading = packet_record(packet);
+    packet_told(packet)
 }
 
+// The same of frames.
 pub fn read_frame(reading: &mut Reading, wire: &[u8]) -> FrameTold
     ensures { λ r. ⌜ ReadsFrame (now (reading .entry)) (now (wire .entry)) r (now (reading .exit)) ⌝ }
 {
@@ -34,17 +35,17 @@ pub fn read_frame(reading: &mut Reading, wire: &[u8]) -> FrameTold
 }
 
 // An answer's two parts.
-fn line_record(packet: line::Answer) -> Reading
+fn packet_record(packet: line::Answer) -> Reading
     ensures { λ r. ⌜ r ≡ packet .reading ⌝ }
 {
     packet.reading
 }
 
-fn line_told(packet: line::Answer) -> LineTold
-    ensures { λ r. ⌜ r ≡ lineTold packet ⌝ }
+fn packet_told(packet: line::Answer) -> PacketTold
+    ensures { λ r. ⌜ r ≡ packetTold packet ⌝ }
 {
     let outcome = packet.outcome;
-    LineTold {
+    PacketTold {
         used: packet.used,
         outcome: outcome,
     }

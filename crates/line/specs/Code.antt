@@ -1,4 +1,4 @@
--- What the reader's private functions answer.
+-- What the functions behind the reader answer.
 use Prim.Native.Nat.{ℕ, _+_, _≤_, _<_}
 use mathlib.Core.Path.{_≡_}
 use mathlib.Core.List.{List, [], _∷_, _++_}

@@ -61,7 +61,7 @@ pub struct Told {
     pub place: Place,
 }
 
-// What one byte asks for.
+// What one byte asks the reader to do.
 pub enum Action {
     Store(u8),
     Keep(Mode),

@@ -1,6 +1,6 @@
 // The open sessions: which line holds which motors (document 01, "What the commands do", mode send and host calls).
-// Every answer is the definition's, whatever the slots, the table and the bits hold: specs/Sessions.antt.
-// It stands on the node table and the store.
+// It has no code: the types stand here, the rules in specs/Sessions.antt. The code is in `slots`, `removal`, `targets` and `opening`.
+// It stands on the node table's rules.
 
 // Slots for all lines together, the nodes that a session may hold, and the indices of a mode send.
 pub const SLOTS: usize = 8;

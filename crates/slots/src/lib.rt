@@ -102,7 +102,7 @@ pub fn holds(slot: Slot, node: usize) -> bool
     false
 }
 
-// The lowest slot with a number, and the lowest free one; `SLOTS` where there is none.
+// The lowest slot with a number; `SLOTS` where there is none.
 pub fn first_numbered(slots: [Slot; sessions::SLOTS], number: u16) -> usize
     ensures { λ r. ⌜ r ≡ first (isNumbered number) slots ⌝ }
 {

@@ -1,5 +1,5 @@
 // The words of a script, and the numbers among them.
-// Every answer is the definition's: crate script, specs/Script.antt, specs/Answers.antt. It stands on the format's definitions and the store.
+// Every answer is the definition's: crate script, specs/Script.antt, specs/Answers.antt. It stands on the format's definitions.
 ghost use Prim.Native.Nat.{_≤_};
 ghost use mathlib.Core.Path.{_≡_};
 ghost use lib.ListN.{length};
@@ -67,6 +67,7 @@ fn wide(x: u8) -> usize
     x as usize
 }
 
+// Whether a byte lies in a range, both ends included.
 pub fn is_between(b: u8, low: u8, high: u8) -> bool
     ensures { λ r. ⌜ r ≡ between low high b ⌝ }
 {
@@ -76,6 +77,7 @@ pub fn is_between(b: u8, low: u8, high: u8) -> bool
     b <= high
 }
 
+// Whether two words are the same.
 pub fn is_same(a: &[u8], b: &[u8]) -> bool
     ensures { λ r. ⌜ r ≡ same (now (a .entry)) (now (b .entry)) ⌝ }
 {

@@ -1,4 +1,4 @@
-// The node table's use, removal, emptying and enrolment, in lent memory (document 01, "What the commands do").
+// The node table: which nodes are in use, and removal, in lent memory (document 01, "What the commands do").
 // Every byte of the table is the definition's: crate nodes, specs/Table.antt. It stands on the table's rules and the store's runs of bytes.
 ghost use Prim.Native.Nat.{_<_};
 ghost use mathlib.Core.Path.{_≡_};

@@ -8,7 +8,8 @@ ghost use Rattle.view.specs.View.{Shows};
 ghost use Rattle.view.specs.Code.{commandIn, partIn};
 use frame::Judged;
 
-// A frame's command number and its data, where they lie; of a refused packet, 0 and the empty part at its start.
+// A frame's command number and its data, where they lie; of a refused packet, 0 and the empty part at its start. Who must tell
+// such a view from that of the frame 0000 without data asks `checks::judge`.
 pub struct View<'a> {
     pub command: u16,
     pub data: &'a [u8],

@@ -1,6 +1,6 @@
 // The frame layer's writing side: commands with data to wire form (document 01, "From packet to frame").
 // Each call's answer and the room that it leaves are the definition's: specs/Writing.antt of `frame`.
-// With `frame`, which reads, it is the frame layer; it stands on what that, the line reader and the store state.
+// With `checks`, `reader` and `view` it is the frame layer; it stands on what that layer and the line layer define, and on the store.
 ghost use mathlib.Core.Path.{_≡_};
 ghost use Prim.Native.Nat.{_+_, _≤_};
 ghost use mathlib.Core.List.{[], _∷_};
