@@ -1,4 +1,5 @@
 pub mod Answers
+pub mod Lent
 pub mod Replies
 pub mod ReplyLaws
 pub mod Examples

@@ -60,6 +60,17 @@ pub struct Fed {
     pub reading: Reading,
 }
 
+// What close and feed on a lent record give back beside it.
+pub struct ClosedLent {
+    pub answer: CallAnswer,
+    pub hub: Hub,
+}
+
+pub struct FedLent {
+    pub answer: FeedAnswer,
+    pub hub: Hub,
+}
+
 // The hub that serving leaves, and the length of the reply at the room's front.
 pub struct Served {
     pub hub: Hub,

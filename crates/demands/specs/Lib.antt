@@ -8,3 +8,5 @@ pub mod Feeds
 pub mod Demand3Example
 pub mod OneHolder
 pub mod Demands
+pub mod LentCalls
+pub mod LentDemands

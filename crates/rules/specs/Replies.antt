@@ -111,7 +111,13 @@ closed : rules.close moving emptied 2 .hub ∷ rules.close moving emptied 1 .hub
 unfolding windows loggedIn modeSendOf moving serve request enter same rules.modeSend sessions.modeSend sessions.isLegal sessions.targetsLegal sessions.marked search.any search.first table.inUse lookup.verdict lookup.verdictOf lookup.find directory
 closed = refl
 
--- its reading state is emptied; there is no line 4
+-- start zeroes the table; nobody is logged in, and there is no session
+started : rules.start moving windows (replicate 32 7)
+    ≡ record { refusal = none; hub = record { password = replicate 32 7; logins = false ∷ false ∷ false ∷ false ∷ []; slots = firstHub .slots }; table = replicate table.tableSize 0 }
+unfolding windows
+started = refl
+
+-- closing a line empties its reading state; there is no line 4
 closed-state : rules.close firstHub (plain (0 ∷ [])) 2 .state ∷ rules.close firstHub (plain (0 ∷ [])) 4 .state ∷ [] ≡ emptied ∷ plain (0 ∷ []) ∷ []
 closed-state = refl
 

@@ -1,24 +1,14 @@
-// The hub's calls on a lent record: the serial service lends a line's reading, and the call changes it where it lies (document 01, "From
-// wire to packet"). Each call promises what the hub's call by value does: specs/Answers.antt. specs/Demands.antt has the demands of such calls.
+// The hub's calls on a lent record: the serial service lends a line's reading, and the call changes it where it lies (document 01,
+// "From wire to packet"). Each call promises what the hub's call by value does: crate calls, specs/Lent.antt.
+// The demands of such calls: crate demands, specs/LentDemands.antt. It stands on the hub's calls by value.
 ghost use mathlib.Core.Path.{_≡_};
-ghost use Rattle.service.specs.Answers.{fedTold, FeedsLent, closedTold, ClosesLent};
-use calls::CallAnswer;
+ghost use Rattle.calls.specs.Lent.{fedTold, FeedsLent, closedTold, ClosesLent};
 use calls::Closed;
+use calls::ClosedLent;
 use calls::Fed;
-use calls::FeedAnswer;
+use calls::FedLent;
 use line::Reading;
 use rules::Hub;
-
-// What a call gives back beside the record where it lies.
-pub struct ClosedLent {
-    pub answer: CallAnswer,
-    pub hub: Hub,
-}
-
-pub struct FedLent {
-    pub answer: FeedAnswer,
-    pub hub: Hub,
-}
 
 // A line is closed: its login is lost, its reading state emptied, its sessions closed.
 pub fn close(hub: Hub, reading: &mut Reading, line: u8) -> ClosedLent

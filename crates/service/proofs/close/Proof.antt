@@ -41,8 +41,8 @@ use Rattle.rules.specs.declared.Hub.{Hub}
 use Rattle.rules.specs.Promises.{Closes}
 use Rattle.calls.specs.declared.Closed.{Closed}
 use Rattle.calls.specs.Answers.{closedOf, BoundedClosed}
-use Rattle.service.specs.declared.ClosedLent.{ClosedLent}
-use Rattle.service.specs.Answers.{closedTold, ClosesLent}
+use Rattle.calls.specs.declared.ClosedLent.{ClosedLent}
+use Rattle.calls.specs.Lent.{closedTold, ClosesLent}
 use Rattle.lent.proofs.Part.{Plain, rowOf, valOf, valsOf, typed, Part}
 use Rattle.lent.proofs.Back.{takes-out, puts-back}
 use Rattle.lent.proofs.OnRecord.{R}
@@ -50,8 +50,8 @@ use Rattle.rules.proofs.Hub as hub-type
 use Rattle.rules.proofs.Hub.Laws as hub-laws
 use Rattle.calls.proofs.Closed as closed-type
 use Rattle.calls.proofs.Closed.Laws as closed-laws
-use Rattle.service.proofs.ClosedLent as told-type
-use Rattle.service.proofs.ClosedLent.Laws as told-laws
+use Rattle.calls.proofs.ClosedLent as told-type
+use Rattle.calls.proofs.ClosedLent.Laws as told-laws
 use Rattle.hub.proofs.close as by-value
 use Rattle.hub.proofs.close.Symbol as by-value-def
 use Rattle.hub.proofs.close.Symbol.{name as #hub·close}

@@ -46,8 +46,8 @@ use Rattle.rules.specs.declared.Hub.{Hub}
 use Rattle.rules.specs.Hub as rules
 use Rattle.calls.specs.declared.Fed.{Fed}
 use Rattle.calls.specs.Answers.{fedOf, BoundedFed}
-use Rattle.service.specs.declared.FedLent.{FedLent}
-use Rattle.service.specs.Answers.{fedTold, FeedsLent}
+use Rattle.calls.specs.declared.FedLent.{FedLent}
+use Rattle.calls.specs.Lent.{fedTold, FeedsLent}
 use Rattle.lent.proofs.Part.{Plain, rowOf, valOf, valsOf, typed, Part}
 use Rattle.lent.proofs.Back.{takes-out, puts-back}
 use Rattle.lent.proofs.OnRecord.{R}
@@ -55,8 +55,8 @@ use Rattle.rules.proofs.Hub as hub-type
 use Rattle.rules.proofs.Hub.Laws as hub-laws
 use Rattle.calls.proofs.Fed as fed-type
 use Rattle.calls.proofs.Fed.Laws as fed-laws
-use Rattle.service.proofs.FedLent as told-type
-use Rattle.service.proofs.FedLent.Laws as told-laws
+use Rattle.calls.proofs.FedLent as told-type
+use Rattle.calls.proofs.FedLent.Laws as told-laws
 use Rattle.hub.proofs.feed as by-value
 use Rattle.hub.proofs.feed.Symbol as by-value-def
 use Rattle.hub.proofs.feed.Symbol.{name as #hub·feed}

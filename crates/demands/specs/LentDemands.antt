@@ -15,13 +15,13 @@ use Rattle.feeds.specs.Sent.{Sent, frameOf, sent}
 use Rattle.feeds.specs.Serving.{AllOn, onLine, toldAll}
 use Rattle.feeds.specs.Demand3.{OneDamaged, Harmless, AnyThenFrames, Recovered, Line, recordAt}
 use Rattle.rules.specs.Hub.{lineCount, isLoggedIn, hub}
 use Rattle.demands.specs.Steps as steps
 use Rattle.demands.specs.Steps.{Memory, Step, feed, Return, fed, Made, Steps, refusal, refusalTold, isRefused, Unprivileged, loggedByAll}
 use Rattle.demands.specs.Demand3 as rules
 use Rattle.demands.specs.Demands.{Untouched, Answered, demand-1, Unchanged, servedIn, servedFrom, Same, demand-2, no-two-holders}
 use Rattle.demands.specs.OneHolder.{OneAtMost}
-use Rattle.service.specs.Calls.{Back, gotOf, Run, stop, next, Feeds, Call, host, closes, feeds, Calls}
-use Rattle.service.specs.Calls as calls
+use Rattle.demands.specs.LentCalls.{Back, gotOf, Run, stop, next, Feeds, Call, host, closes, feeds, Calls}
+use Rattle.demands.specs.LentCalls as calls
 
 -- a list of feeds on lent records, as one by value
 pub run-by-value : {m e : Memory} {gs : List Lent} {os : List Back} → Run m gs os e → by-value.Run hub m gs (map gotOf os) e
@@ -49,7 +49,7 @@ pub record Demand3 : Type 0 where
 pub demand-3 : Demand3
 demand-3 = record { first = λ l F d. rules.demand-3 .first l (feedsOf F) d; second = λ l F a. rules.demand-3 .second l (feedsOf F) a }
 
--- Demands 1 and 2, and no motor in two sessions, clause by clause as crate demands has them. That such lists exist is not said here: the calls'
+-- Demands 1 and 2, and no motor in two sessions, clause by clause as in Demands. That such lists exist is not said here: the calls'
 -- own code makes them.
 pub record Demands : Type 0 where
   pub exactly : {m v : Memory} {s : Step} {o : Return} → Call m s o v → refusalTold o ≡ refusal m s

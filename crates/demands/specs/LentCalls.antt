@@ -1,16 +1,16 @@
 -- Calls on lent records, one after another: each gets the hub, the one table and its line's own record as the last one left them. What is
--- kept between calls, what each is lent and what is compared of it are those of crates feeds (Service) and demands (Steps).
+-- kept between calls, what each is lent and what is compared of it are those of crate feeds (Service) and of Steps.
 use Prim.Native.Nat.{ℕ}
 use mathlib.Core.List.{List, [], _∷_}
 use lib.ListN.{set}
 use Rattle.line.specs.declared.Reading.{Reading}
 use Rattle.feeds.specs.Service.{Lent, Got, recordFor, leftBy}
 use Rattle.rules.specs.Hub.{hub}
 use Rattle.demands.specs.Steps.{Memory, Step, close, feed, Return, closed, fed, lineRecord, Made}
 use Rattle.calls.specs.Answers.{closedOf, fedOf}
-use Rattle.service.specs.declared.ClosedLent.{ClosedLent}
-use Rattle.service.specs.declared.FedLent.{FedLent}
-use Rattle.service.specs.Answers.{closedAnswer, ClosesLent, fedAnswer, FeedsLent}
+use Rattle.calls.specs.declared.ClosedLent.{ClosedLent}
+use Rattle.calls.specs.declared.FedLent.{FedLent}
+use Rattle.calls.specs.Lent.{closedAnswer, ClosesLent, fedAnswer, FeedsLent}
 
 -- what a feed gives back: its answer and the hub, and table, record and room where they lie
 pub record Back : Type 0 where
