@@ -246,7 +246,7 @@ fn mode_send(hub: Hub, table: &[u8], room: &mut [u8], line: u8, payload: &[u8]) 
     ensures { λ r. ⌜ Answered (modeSend hub (now (table .entry)) line (now (payload .entry)) .hub) (modeSend hub (now (table .entry)) line (now (payload .entry)) .reply) (now (room .entry)) r (now (room .exit)) ⌝ }
 {
     let slots = hub.slots;
-    let asked = targets::request(payload);
+    let asked = asked::request(payload);
     let sent = opening::mode_send(slots, table, line, asked);
     let left = sent.slots;
     let confirm = [payload[0], payload[1], sent.status];

@@ -9,7 +9,7 @@ use Rattle.requests.proofs.mode_send.Lts as lts
 use Rattle.requests.proofs.reply.Reads as reply-reads
 use Rattle.access.proofs.with_slots.Reads as with-slots-reads
 use Rattle.opening.proofs.mode_send.Reads as mode-send-reads
-use Rattle.targets.proofs.request.Reads as request-reads
+use Rattle.asked.proofs.request.Reads as request-reads
 
 -- src/lib.rt:215:9
 request-requires : tie.Need-request-requires

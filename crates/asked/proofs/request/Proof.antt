@@ -1,6 +1,6 @@
 use borrow.Author.Needs.{needs}
-use Rattle.targets.proofs.request.Statement.{statement}
-use Rattle.targets.proofs.request.Tie as tie
+use Rattle.asked.proofs.request.Statement.{statement}
+use Rattle.asked.proofs.request.Tie as tie
 
 byte-requires : tie.Need-byte-requires
 byte-requires c κs = search needs

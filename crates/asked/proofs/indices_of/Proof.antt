@@ -6,8 +6,8 @@ use lib.ListN.{length, drop, length-drop, drop-of-length-le}
 use borrow.Author.Needs.{needs}
 use Rattle.sessions.specs.ListLaws.{sets-zeros}
 use Rattle.sessions.specs.Sessions.{maxIndices}
-use Rattle.targets.proofs.indices_of.Statement.{statement}
-use Rattle.targets.proofs.indices_of.Tie as tie
+use Rattle.asked.proofs.indices_of.Statement.{statement}
+use Rattle.asked.proofs.indices_of.Tie as tie
 
 returns : tie.Need-returns
 returns c = rw (drop-of-length-le (c .before .before .args .payload .now) {i = 7} (omega arith))
