@@ -1,7 +1,8 @@
 // What one wire byte asks of the line reader, and where a lent record is taken up (document 01, "From wire to packet").
 // Each answer does the definition's step, whatever bytes are held: crate line, specs/Reader.antt, specs/Code.antt.
 // It stands on what the line layer states.
-ghost use Rattle.line.specs.Code.{Takes, Acts, stepping, closing, storing};
+ghost use mathlib.Core.Path.{_≡_};
+ghost use Rattle.line.specs.Code.{placeOf, Takes, Acts, stepping, closing, storing};
 use line::Action;
 use line::END;
 use line::ESC;
@@ -12,6 +13,16 @@ use line::LIMIT;
 use line::Mode;
 use line::Outcome;
 use line::Place;
+use line::Reading;
+
+// Where a reading stands, apart from its bytes.
+pub fn place_of(reading: Reading) -> Place
+    ensures { λ r. ⌜ r ≡ placeOf reading ⌝ }
+{
+    let count = reading.count;
+    let mode = reading.mode;
+    Place { count, mode }
+}
 
 // The place that a lent record is taken at.
 pub fn taken_at(place: Place) -> Place

@@ -8,11 +8,16 @@ use Rattle.line.specs.declared.Mode.{Mode}
 use Rattle.line.specs.declared.Mode.the-variants.{Plain, Escaped, Skipping}
 use Rattle.line.specs.declared.Outcome.the-variants.{Nothing, Packet, Refused}
 use Rattle.line.specs.declared.Place.{Place}
+use Rattle.line.specs.declared.Reading.{Reading}
 use Rattle.line.specs.declared.Action.{Action}
 use Rattle.line.specs.declared.Action.the-variants.{Store, Keep, Skip, Give}
 use Rattle.line.specs.Scan.{ahead}
 use Rattle.line.specs.Reader.{limit, read, State, plain, skipping, emptied, Outcome, decoded, close, step}
 use Rattle.line.specs.Answers.{at, takenAs, told, Clear}
+
+-- `place_of`: where a reading stands, apart from its bytes
+abbrev pub placeOf : Reading → Place
+placeOf r = record { count = r .count; mode = r .mode }
 
 -- `taken_at`: the state that a record of any bytes is taken as
 pub record Takes (p r : Place) : Type 0 where

@@ -35,22 +35,23 @@ pub fn read(reading: Reading, wire: &[u8]) -> Answer
     ensures { λ r. ⌜ Answers (read (taken reading) (now (wire .entry))) r ⌝ }
 {
     let mut bytes = reading.bytes;
-    let count = reading.count;
-    let mode = reading.mode;
-    let told = read_in(&mut bytes, Place { count, mode }, wire);
+    let told = read_in(&mut bytes, escape::place_of(reading), wire);
+    answer_of(bytes, told)
+}
+
+// An answer with its bytes.
+fn answer_of(bytes: [u8; LIMIT], told: Told) -> Answer
+    ensures { λ r. ⌜ r ≡ answerOf bytes told ⌝ }
+{
     let used = told.used;
     let outcome = told.outcome;
     let place = told.place;
-    let held = place.count;
-    let stands = place.mode;
+    let count = place.count;
+    let mode = place.mode;
     Answer {
         used: used,
         outcome: outcome,
-        reading: Reading {
-            bytes: bytes,
-            count: held,
-            mode: stands,
-        },
+        reading: Reading { bytes, count, mode },
     }
 }
 
