@@ -41,7 +41,7 @@ mode-sent : replyTo 1 (199 ∷ []) ≡ 0xC0 ∷ 0x00 ∷ 0x06 ∷ 0x03 ∷ 0x21 
 unfolding windows loggedIn modeSendOf serve request enter same rules.modeSend sessions.modeSend sessions.isLegal sessions.targetsLegal sessions.marked search.any search.first search.below table.inUse lookup.verdict lookup.verdictOf lookup.find directory wire escape framed body xor.xorAll xor._⊕_
 mode-sent = refl
 
-mode-finished : finish (serve loggedIn windows 2 (frame 0x0320 (modeSendOf 1 (199 ∷ []))) .hub) 0x0102 512 .reply
+mode-finished : finish (serve loggedIn windows 2 (frame 0x0320 (modeSendOf 1 (3 ∷ []))) .hub) 0x0102 512 .reply
     ≡ 0xC0 ∷ 0x00 ∷ 0x05 ∷ 0x03 ∷ 0x04 ∷ 0x01 ∷ 0x02 ∷ 0x01 ∷ 0xC0 ∷ []
 unfolding windows loggedIn modeSendOf serve request enter same rules.modeSend sessions.modeSend sessions.isLegal sessions.targetsLegal sessions.marked sessions.finish search.any search.first search.below table.inUse lookup.verdict lookup.verdictOf lookup.find directory wire escape framed body xor.xorAll xor._⊕_ rules.notice
 mode-finished = refl
@@ -85,9 +85,9 @@ got : serve loggedIn windows 2 (frame 0x0200 (199 ∷ [])) .reply ∷ serve logg
 unfolding windows loggedIn serve request enter same rules.getNode table.inUse lookup.verdict lookup.verdictOf lookup.find directory
 got = refl
 
--- line 2 has a session with node 199
+-- line 2 has a session with node 3
 unfoldable moving : Hub
-moving = serve loggedIn windows 2 (frame 0x0320 (modeSendOf 1 (199 ∷ []))) .hub
+moving = serve loggedIn windows 2 (frame 0x0320 (modeSendOf 1 (3 ∷ []))) .hub
 
 -- virgin state zeroes the table and closes the session; login and password stay
 virgin : serve moving windows 2 (frame 0x0108 []) ≡ record { hub = loggedIn; table = replicate table.tableSize 0; reply = wire 0x0109 [] }
@@ -101,8 +101,8 @@ confirmed : serve loggedIn windows 2 (frame 0x0206 (7 ∷ 3 ∷ [])) .reply ∷ 
 unfolding windows loggedIn serve request enter same table.setVariation table.setField table.inUse lookup.verdict lookup.verdictOf lookup.find directory wire escape framed body xor.xorAll xor._⊕_
 confirmed = refl
 
--- removing node 199 closes the session, removing node 198 does not
-removed : serve moving windows 2 (frame 0x0106 (replicate 24 0 ++ (128 ∷ 0 ∷ []))) .hub ∷ serve moving windows 2 (frame 0x0106 (replicate 24 0 ++ (64 ∷ 0 ∷ []))) .hub ∷ [] ≡ loggedIn ∷ moving ∷ []
+-- removing node 3 closes the session, removing node 4 does not
+removed : serve moving windows 2 (frame 0x0106 (8 ∷ replicate 25 0)) .hub ∷ serve moving windows 2 (frame 0x0106 (16 ∷ replicate 25 0)) .hub ∷ [] ≡ loggedIn ∷ moving ∷ []
 unfolding windows loggedIn modeSendOf moving serve request enter same rules.modeSend rules.removeNodes sessions.modeSend sessions.isLegal sessions.targetsLegal sessions.marked sessions.holdsRemoved search.any search.first search.below table.inUse table.bit lookup.verdict lookup.verdictOf lookup.find directory
 removed = refl
 
@@ -123,7 +123,7 @@ closed-state = refl
 
 -- the host calls' refusals by the paper's numbers, where several apply the first
 refusals : rules.start firstHub [] [] .refusal ∷ rules.start firstHub windows [] .refusal ∷ rules.start firstHub windows (replicate 32 1) .refusal
-    ∷ rules.enrol [] 200 0 .refusal ∷ rules.enrol windows 200 0 .refusal ∷ rules.enrol windows 199 0 .refusal ∷ rules.enrol (replicate table.tableSize 0) 199 0 .refusal
+    ∷ rules.enrol [] 200 0 .refusal ∷ rules.enrol windows 200 0 .refusal ∷ rules.enrol windows 3 0 .refusal ∷ rules.enrol (replicate table.tableSize 0) 199 0 .refusal
     ∷ rules.close firstHub emptied 4 .refusal ∷ rules.close firstHub emptied 3 .refusal ∷ []
     ≡ some 7 ∷ some 14 ∷ none ∷ some 7 ∷ some 11 ∷ some 12 ∷ none ∷ some 8 ∷ none ∷ []
 unfolding windows table.inUse
