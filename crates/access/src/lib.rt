@@ -19,7 +19,7 @@ pub struct Entered {
 }
 
 // Password enter, on a line.
-pub fn enter(hub: Hub, line: u8, given: [u8; 32]) -> Entered
+pub fn enter(hub: Hub, line: u8, given: [u8; rules::PASSWORD]) -> Entered
     ensures { λ r. ⌜ Enters (enter hub line given) r ⌝ }
 {
     let password = hub.password;
@@ -44,7 +44,7 @@ pub fn enter(hub: Hub, line: u8, given: [u8; 32]) -> Entered
 }
 
 // Password change.
-pub fn change(hub: Hub, old: [u8; 32], new: [u8; 32]) -> Entered
+pub fn change(hub: Hub, old: [u8; rules::PASSWORD], new: [u8; rules::PASSWORD]) -> Entered
     ensures { λ r. ⌜ Enters (change hub old new) r ⌝ }
 {
     let password = hub.password;
@@ -68,7 +68,7 @@ pub fn change(hub: Hub, old: [u8; 32], new: [u8; 32]) -> Entered
 }
 
 // Whether a line is logged in.
-pub fn is_logged_in(logins: [bool; 4], line: u8) -> bool
+pub fn is_logged_in(logins: [bool; rules::LINES], line: u8) -> bool
     ensures { λ r. ⌜ r ≡ isListed logins line ⌝ }
 {
     let k = line as usize;
@@ -79,7 +79,7 @@ pub fn is_logged_in(logins: [bool; 4], line: u8) -> bool
 }
 
 // A line is logged in or out; there is no line above 3.
-pub fn with_login(logins: [bool; 4], line: u8, value: bool) -> [bool; 4]
+pub fn with_login(logins: [bool; rules::LINES], line: u8, value: bool) -> [bool; rules::LINES]
     ensures { λ r. ⌜ r ≡ set logins line value ⌝ }
 {
     let k = line as usize;
@@ -92,7 +92,7 @@ pub fn with_login(logins: [bool; 4], line: u8, value: bool) -> [bool; 4]
 }
 
 // The hub with other sessions.
-pub fn with_slots(hub: Hub, slots: [Slot; 8]) -> Hub
+pub fn with_slots(hub: Hub, slots: [Slot; sessions::SLOTS]) -> Hub
     ensures { λ r. ⌜ r ≡ withSlots hub slots ⌝ }
 {
     let password = hub.password;
@@ -105,7 +105,7 @@ pub fn with_slots(hub: Hub, slots: [Slot; 8]) -> Hub
 }
 
 // All bytes are compared.
-fn same(a: [u8; 32], b: [u8; 32]) -> bool
+fn same(a: [u8; rules::PASSWORD], b: [u8; rules::PASSWORD]) -> bool
     ensures { λ r. ⌜ r ≡ same a b ⌝ }
 {
     let mut i = 0;

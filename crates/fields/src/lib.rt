@@ -13,13 +13,13 @@ const MAX_VARIATION: u8 = 4;
 pub fn set_name(table: &mut [u8], node: u8, name: &[u8]) -> u8
     ensures { λ r. ⌜ Results (setName (now (table .entry)) node (now (name .entry))) r (now (table .exit)) ⌝ }
 {
-    set_field(table, node as usize, Field { at: 3, size: 64 }, name)
+    set_field(table, node as usize, nodes::NAME, name)
 }
 
 pub fn set_order_and_placement(table: &mut [u8], node: u8, value: &[u8]) -> u8
     ensures { λ r. ⌜ Results (setOrderAndPlacement (now (table .entry)) node (now (value .entry))) r (now (table .exit)) ⌝ }
 {
-    set_field(table, node as usize, Field { at: 67, size: 3 }, value)
+    set_field(table, node as usize, nodes::ORDER_AND_PLACEMENT, value)
 }
 
 pub fn set_variation(table: &mut [u8], node: u8, variation: u8) -> u8
@@ -29,7 +29,7 @@ pub fn set_variation(table: &mut [u8], node: u8, variation: u8) -> u8
         return nodes::REJECTED;
     }
     let value = [variation];
-    set_field(table, node as usize, Field { at: 70, size: 1 }, &value)
+    set_field(table, node as usize, nodes::VARIATION, &value)
 }
 
 fn is_rejected(table: &[u8], node: usize, variation: u8) -> bool

@@ -22,17 +22,17 @@ use sessions::Told;
 pub fn first() -> Hub
     ensures { λ r. ⌜ r ≡ firstHub ⌝ }
 {
-    fresh([0u8; 32])
+    fresh([0u8; rules::PASSWORD])
 }
 
 // A hub with a password, nobody logged in, no session.
-fn fresh(password: [u8; 32]) -> Hub
+fn fresh(password: [u8; rules::PASSWORD]) -> Hub
     ensures { λ r. ⌜ r ≡ freshHub password ⌝ }
 {
     let slots = slots::none();
     Hub {
         password: password,
-        logins: [false; 4],
+        logins: [false; rules::LINES],
         slots: slots,
     }
 }
@@ -61,11 +61,11 @@ pub fn start(hub: Hub, table: &mut [u8], password: &[u8]) -> Started
     }
 }
 
-fn password_of(password: &[u8]) -> [u8; 32]
+fn password_of(password: &[u8]) -> [u8; rules::PASSWORD]
     requires { ⌜ length (now password) ≡ passwordSize ⌝ }
     ensures { λ r. ⌜ r ≡ now (password .entry) ⌝ }
 {
-    let mut out = [0u8; 32];
+    let mut out = [0u8; rules::PASSWORD];
     store::copy(&mut out, 0, password);
     out
 }

@@ -41,13 +41,13 @@ fn information_of(table: &[u8], node: u8) -> [u8; nodes::INFORMATION]
     let mut out = [0u8; nodes::INFORMATION];
     let n = node as usize;
     out[0] = node;
-    let placement = put_field(&mut out, 1, table, n, Field { at: 67, size: 2 });
-    let name = put_field(&mut out, placement, table, n, Field { at: 69, size: 1 });
-    let velocity = put_field(&mut out, name, table, n, Field { at: 3, size: 64 });
+    let placement = put_field(&mut out, 1, table, n, nodes::ORDER);
+    let name = put_field(&mut out, placement, table, n, nodes::PLACEMENT);
+    let velocity = put_field(&mut out, name, table, n, nodes::NAME);
     store::fill(&mut out, velocity, 1, 0);
-    let group = put_field(&mut out, velocity + 1, table, n, Field { at: 1, size: 2 });
+    let group = put_field(&mut out, velocity + 1, table, n, nodes::TYPE);
     store::fill(&mut out, group, 2, 0);
-    let power = put_field(&mut out, group + 2, table, n, Field { at: 70, size: 1 });
+    let power = put_field(&mut out, group + 2, table, n, nodes::VARIATION);
     store::fill(&mut out, power, 50, 0);
     out
 }

@@ -30,3 +30,16 @@ pub struct Informed {
     pub known: bool,
     pub bytes: [u8; INFORMATION],
 }
+
+// The fields of a record that commands write and tell.
+pub const TYPE: Field = Field { at: 1, size: 2 };
+
+pub const NAME: Field = Field { at: 3, size: 64 };
+
+pub const ORDER: Field = Field { at: 67, size: 2 };
+
+pub const PLACEMENT: Field = Field { at: 69, size: 1 };
+
+pub const ORDER_AND_PLACEMENT: Field = Field { at: 67, size: 3 };
+
+pub const VARIATION: Field = Field { at: 70, size: 1 };

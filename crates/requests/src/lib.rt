@@ -89,7 +89,7 @@ fn judged(
     }
 }
 
-fn may_ask(logins: [bool; 4], line: u8, command: u16) -> bool
+fn may_ask(logins: [bool; rules::LINES], line: u8, command: u16) -> bool
     ensures { λ r. ⌜ r ≡ mayAsk logins line command ⌝ }
 {
     if access::is_logged_in(logins, line) {
@@ -152,11 +152,11 @@ fn change(hub: Hub, room: &mut [u8], payload: &[u8]) -> Served
     Served { hub: next, len: n }
 }
 
-fn password_at(payload: &[u8], at: usize) -> [u8; 32]
+fn password_at(payload: &[u8], at: usize) -> [u8; rules::PASSWORD]
     requires { ⌜ at + passwordSize ≤ length (now payload) ⌝ }
     ensures { λ r. ⌜ r ≡ take passwordSize (drop at (now (payload .entry))) ⌝ }
 {
-    let mut out = [0u8; 32];
+    let mut out = [0u8; rules::PASSWORD];
     store::copy(&mut out, 0, &payload[at..at + rules::PASSWORD]);
     out
 }
@@ -235,7 +235,7 @@ fn virgin_state(hub: Hub, table: &mut [u8], room: &mut [u8]) -> Served
     Served { hub: next, len: n }
 }
 
-fn close_all(slots: [Slot; 8]) -> [Slot; 8]
+fn close_all(slots: [Slot; sessions::SLOTS]) -> [Slot; sessions::SLOTS]
     ensures { λ r. ⌜ r ≡ closeAll slots ⌝ }
 {
     slots::none()

@@ -10,7 +10,7 @@ pub const PASSWORD: usize = 32;
 
 // The hub's state. The node table is lent to each call; the reading states are the serial service's.
 pub struct Hub {
-    pub password: [u8; 32],
-    pub logins: [bool; 4],
-    pub slots: [Slot; 8],
+    pub password: [u8; PASSWORD],
+    pub logins: [bool; LINES],
+    pub slots: [Slot; sessions::SLOTS],
 }
