@@ -22,7 +22,8 @@ pub record ClosedLine : Type 0 where
   pub hub : Hub
   pub reading : Reading
 
--- refusal, hub and record as taken are the definition's; a refused call leaves the record as it lies
+-- refusal, hub and record as taken are the definition's; a refused call leaves the record as it lies. Left to the program otherwise: the places of
+-- the record's array, of which none is held.
 pub record Closes (h : Hub) (r : Reading) (l : ℕ) (o : ClosedLine) : Type 0 where
   pub refusal : o .refusal ≡ close h (taken r) l .refusal
   pub hub : o .hub ≡ close h (taken r) l .hub
