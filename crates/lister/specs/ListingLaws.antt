@@ -1,5 +1,5 @@
 -- Laws of the listing.
-use Prim.Native.Nat.{ℕ, zero, suc, _+_, _-_, _≤_, _<_}
+use Prim.Native.Nat.{ℕ, zero, suc, _+_, _-_, _^_, _≤_, _<_}
 use mathlib.Core.Path.{_≡_, refl, sym, ap, _∙_}
 use mathlib.Core.List.{List, [], _∷_, _++_, append-assoc, append-nil}
 use mathlib.Core.Bool.{Bool, true, false, cond}
@@ -8,24 +8,29 @@ use mathlib.Core.Logic.{_⊎_, ⊎-elim}
 use native.Mathlib.Nat.{zero-add}
 use native.Mathlib.Omega.{arith}
 use lib.ListN.{length, take, drop, getD, length-drop, length-append}
-use lib.Seq.{sets, take-length, take-suc, take-add, length-take-le}
+use lib.Seq.{take-length, take-suc, take-add, length-take-le}
 use lib.Dec.{leb, eqb}
-use borrow.Author.Tests.{leb-true}
+use borrow.Author.Tests.{le-ltb}
 use Rattle.store.specs.Wrote.{Wrote}
 use Rattle.store.specs.WroteLaws.{none as wrote-none, then, kept, front-to, rest}
 use Rattle.line.specs.declared.Place.{Place}
 use Rattle.line.specs.Reader.{limit}
 use Rattle.line.specs.Pieces.{last}
+use Rattle.line.specs.Answers.{Clear}
+use Rattle.line.specs.Code.{Takes}
 use Rattle.frame.specs.declared.Outcome.{Outcome as Given}
 use Rattle.frame.specs.declared.Outcome.the-variants as given
+use Rattle.frame.specs.declared.Refusal.{Refusal}
+use Rattle.frame.specs.declared.Refusal.the-variants as causes
 use Rattle.frame.specs.declared.Told.{Told}
 use Rattle.frame.specs.Frame.{Outcome, refusal}
 use Rattle.frame.specs.Reading.{END, State, Scan, takenAs, also, outcomes, final, step, read}
 use Rattle.frame.specs.ReadingLaws.{outcomes-append, final-append, Tells, scan-tells, used-some}
 use Rattle.frame.specs.Answers.{told, Within, seen, answerOf, Answers}
 use Rattle.answers.specs.Lines.{refusedLine, LINE}
+use Rattle.answers.specs.LinesLaws.{frameLine-short, refusedLine-short}
 use Rattle.text.specs.Appended.{Memory, appended, Leaves}
-use Rattle.text.specs.AppendedLaws.{appended-whole}
+use Rattle.text.specs.AppendedLaws.{leaves-wrote}
 use Rattle.lister.specs.declared.Listed.{Listed}
 use Rattle.lister.specs.Listing.{outcomeLine, lines, leftAfter}
 use Rattle.lister.specs.Lists.{givenLine, listedOf, Lists}
@@ -46,6 +51,20 @@ given-lines (given.Frame c n) bs x e =
     rw (append-nil, l)
 given-lines (given.Refused r) bs x e = append-nil (refusedLine (refusal r))
 
+-- it is no longer than a line, whatever is told
+pub given-short : (g : Given) → Within g → length (givenLine g) ≤ LINE
+given-short given.Nothing x = omega arith
+given-short (given.Frame c n) x = frameLine-short c n (omega arith)
+given-short (given.Refused r) x = refusedLine-short (refusal r) (small r)
+  where
+    small : (r : Refusal) → refusal r < 2 ^ 64
+    small causes.WrongEscape = omega arith
+    small causes.TooLong = omega arith
+    small causes.TooShort = omega arith
+    small causes.WrongProtocol = omega arith
+    small causes.WrongLength = omega arith
+    small causes.WrongCheck = omega arith
+
 -- ---- one call more
 
 -- of the bytes w, n were used; a call on the rest uses some more
@@ -53,11 +72,15 @@ pub record Turn (s : State) (w : List ℕ) (n : ℕ) (bs : List ℕ) (t : Told) 
   pub some : 0 < t .used
   pub within : n + t .used ≤ length w
   pub state : takenAs bs (t .place .count) (t .place .mode) ≡ final step s (take (n + t .used) w)
+  pub held : t .place .count ≤ limit
+  pub clear : Clear (t .place .mode) (t .place .count)
+  pub full : length bs ≡ limit
+  pub short : length (givenLine (t .outcome)) ≤ LINE
   pub lines : lines (outcomes step s (take (n + t .used) w)) ≡ lines (outcomes step s (take n w)) ++ givenLine (t .outcome)
 
-pub turn : (s r : State) (w : List ℕ) (n : ℕ) (bs : List ℕ) (t : Told) → n < length w → length bs ≡ limit → r ≡ final step s (take n w)
+pub turn : (s r : State) (w : List ℕ) (n : ℕ) (bs : List ℕ) (t : Told) → n < length w → r ≡ final step s (take n w)
     → Answers (read r (take (length w - n) (drop n w))) (answerOf bs t) → Turn s w n bs t
-turn s r w n bs t h full e a =
+turn s r w n bs t h e a =
     let v : List ℕ = drop n w in
     let d : take (length w - n) v ≡ v = rest w n in
     let x : Tells step r v (seen (answerOf bs t)) = rw (a .told) (rw d (scan-tells step r v)) in
@@ -69,12 +92,16 @@ turn s r w n bs t h full e a =
       some = omega arith;
       within = omega (arith, x .within);
       state = sym (x .after) ∙ ap (λ (z : State). final step z (take (t .used) v)) e ∙ sym (final-append step s (take n w) (take (t .used) v)) ∙ ap (final step s) (sym c);
+      held = a .count-within;
+      clear = a .clear;
+      full = a .full;
+      short = given-short (t .outcome) (a .data-within);
       lines =
           ap (λ (z : List ℕ). lines (outcomes step s z)) c
           ∙ ap lines (outcomes-append step s (take n w) (take (t .used) v))
           ∙ lines-append (outcomes step s (take n w)) (outcomes step (final step s (take n w)) (take (t .used) v))
           ∙ ap (λ (z : List ℕ). lines (outcomes step s (take n w)) ++ z)
-          (ap (λ (z : State). lines (outcomes step z (take (t .used) v))) (sym e) ∙ ap lines (x .outcome) ∙ given-lines (t .outcome) bs (a .data-within) full);
+          (ap (λ (z : State). lines (outcomes step z (take (t .used) v))) (sym e) ∙ ap lines (x .outcome) ∙ given-lines (t .outcome) bs (a .data-within) (a .full));
     }
 
 -- ---- bytes since the last END
@@ -104,22 +131,16 @@ left-more k w j h = ap (leftAfter k) (take-suc w j 0 h) ∙ left-append k (take 
 pub whole-left : (k : ℕ) (w : List ℕ) → leftAfter k w ≡ leftAfter k (take (length w) w) + (length w - length w)
 whole-left k w = rw (take-length w) (omega arith)
 
--- ---- a line that fits
+-- ---- no line
 
-pub leaves-wrote : (l : List ℕ) (at : ℕ) (text m : List ℕ) (next : ℕ) → at + length text ≤ length l → Leaves (appended l at text) m next → Wrote l at text m next
-leaves-wrote l at text m next h x =
-    let y = rw (appended-whole l at text h) at x in
-    record { content = y .bytes; place = y .place }
-
--- the place behind a text at the front lies within
-pub appended-within : (l text : List ℕ) → appended l 0 text .place ≤ length l
+-- no line changes nothing
+pub leaves-nothing : (l : List ℕ) (at : ℕ) → Leaves (appended l at []) l at
 unfolding appended
-appended-within l text = go (leb (0 + length text) (length l)) refl
+leaves-nothing l at = go (leb (at + 0) (length l))
   where
-    go : (t : Bool) → leb (0 + length text) (length l) ≡ t
-        → cond {A = Memory} t (record { bytes = sets l 0 text; place = 0 + length text }) (record { bytes = l; place = 0 }) .place ≤ length l
-    go true e = leb-true (0 + length text) (length l) e
-    go false e = omega arith
+    go : (t : Bool) → Leaves (cond {A = Memory} t (record { bytes = l; place = at + 0 }) (record { bytes = l; place = at })) l at
+    go true = record { bytes = refl; place = omega arith }
+    go false = record { bytes = refl; place = refl }
 
 -- ---- on the way through the bytes
 
@@ -128,22 +149,41 @@ pub record Going (s : State) (w before after bs : List ℕ) (p : Place) (n k : �
   pub within : n ≤ length w
   pub full : length bs ≡ limit
   pub state : takenAs bs (p .count) (p .mode) ≡ final step s (take n w)
+  pub held : p .count ≤ limit
+  pub clear : Clear (p .mode) (p .count)
   pub wrote : Wrote before 0 (lines (outcomes step s (take n w))) after k
   pub fits : k ≤ length before
 
-pub going-none : (s : State) (w l bs : List ℕ) (p : Place) → length bs ≡ limit → takenAs bs (p .count) (p .mode) ≡ s → Going s w l l bs p 0 0
+-- the place q that a lent record is taken at has the state that the record is taken as
+pub takes-state : (p q : Place) (bs : List ℕ) → Takes p q → takenAs bs (q .count) (q .mode) ≡ takenAs bs (p .count) (p .mode)
+takes-state p q bs t = rw (le-ltb _ _ (t .within)) (t .state bs)
+
+pub going-none : {p q : Place} (w l bs : List ℕ) → length bs ≡ limit → Takes p q → Going (takenAs bs (q .count) (q .mode)) w l l bs q 0 0
 unfolding final outcomes lines
-going-none s w l bs p full e = record { within = omega arith; full = full; state = e; wrote = wrote-none l 0; fits = omega arith }
+going-none w l bs full t = record {
+  within = omega arith;
+  full = full;
+  state = refl;
+  held = t .within;
+  clear = t .clear;
+  wrote = wrote-none l 0;
+  fits = omega arith;
+}
 
 pub going-more : {s : State} {w before after more bs cs : List ℕ} {p : Place} {n k j : ℕ} {t : Told} → Going s w before after bs p n k
-    → Turn s w n cs t → length cs ≡ limit → Wrote after k (givenLine (t .outcome)) more j → j ≤ length after → Going s w before more cs (t .place) (n + t .used) j
-going-more g x full y h = record {
-  within = x .within;
-  full = full;
-  state = x .state;
-  wrote = rw (x .lines) (then (g .wrote) y);
-  fits = omega (arith, kept (g .wrote));
-}
+    → Turn s w n cs t → k + LINE ≤ length after → Leaves (appended after k (givenLine (t .outcome))) more j → Going s w before more cs (t .place) (n + t .used) j
+going-more {after = after} {k = k} {t = t} g x room y =
+    let h : k + length (givenLine (t .outcome)) ≤ length after = omega (arith, x .short) in
+    let z = leaves-wrote h y in
+    record {
+      within = x .within;
+      full = x .full;
+      state = x .state;
+      held = x .held;
+      clear = x .clear;
+      wrote = rw (x .lines) (then (g .wrote) z);
+      fits = omega (arith, kept (g .wrote), z .place, h);
+    }
 
 pub going-lists : {s : State} {w before after bs : List ℕ} {p : Place} {n k : ℕ} (left : ℕ) → Going s w before after bs p n k
     → (n ≡ length w) ⊎ (length before < k + LINE) → Lists s left w before after (listedOf bs p left w n k)
@@ -153,6 +193,9 @@ going-lists left g x = record {
   fits = g .fits;
   text = front-to (g .wrote) (g .fits);
   reading = g .state;
+  count-within = g .held;
+  clear = g .clear;
+  full = g .full;
   left = refl;
   stops = x;
 }

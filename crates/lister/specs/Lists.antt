@@ -4,7 +4,10 @@ use mathlib.Core.Path.{_≡_}
 use mathlib.Core.List.{List, [], _++_}
 use mathlib.Core.Logic.{_⊎_}
 use lib.ListN.{length, take, drop}
+use Rattle.line.specs.declared.Reading.{Reading}
 use Rattle.line.specs.declared.Place.{Place}
+use Rattle.line.specs.Reader.{limit}
+use Rattle.line.specs.Answers.{Clear}
 use Rattle.frame.specs.declared.Outcome.{Outcome as Given}
 use Rattle.frame.specs.declared.Outcome.the-variants as given
 use Rattle.frame.specs.Frame.{refusal}
@@ -30,13 +33,18 @@ listedOf bs p k w at n = record {
 }
 
 -- From the state s, with k bytes since the last END: r and the room `after` tell what the bytes used give.
--- Left to the program: how many it uses; it stops only at the end of the bytes or where a line might not fit.
+-- The record given back claims no more bytes than its array has, and none while it skips, whatever the lent one claimed.
+-- Left to the program: how many bytes it uses; it stops only at the end of the bytes or where a line might not fit. And the
+-- array's places beyond the bytes held; it stays 255 long.
 pub record Lists (s : State) (k : ℕ) (w before after : List ℕ) (r : Listed) : Type 0 where
   pub within : r .used ≤ length w
   pub written : r .written ≡ length (lines (outcomes step s (take (r .used) w)))
   pub fits : r .written ≤ length before
   pub text : after ≡ lines (outcomes step s (take (r .used) w)) ++ drop (r .written) before
   pub reading : taken (r .reading) ≡ final step s (take (r .used) w)
+  pub count-within : r .reading .count ≤ limit
+  pub clear : Clear (r .reading .mode) (r .reading .count)
+  pub full : length (r .reading .bytes) ≡ limit
   pub left : r .left ≡ capped (leftAfter k (take (r .used) w))
   pub stops : (r .used ≡ length w) ⊎ (length before < r .written + LINE)
 

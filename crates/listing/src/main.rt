@@ -1,5 +1,5 @@
 // Lists a capture: reads standard input to its end, writes a line for each outcome, then the wire bytes since the last END.
-// It stops where the input cannot be read or the output is not taken. The text is made by proved functions of `lister`.
+// It stops where the input cannot be read or the output is not taken. The text is made by proved functions of `capture` and `tally`.
 use libc::STDIN_FILENO;
 use libc::STDOUT_FILENO;
 use line::Reading;
@@ -18,7 +18,7 @@ fn list_part(reading: Reading, left: u64, wire: &[u8]) -> State {
     let mut at = 0;
     let mut out = io::large_buffer();
     while at < wire.len() {
-        let listed = lister::list(r, k, &wire[at..], &mut out);
+        let listed = capture::list(r, k, &wire[at..], &mut out);
         let used = listed.used;
         let written = listed.written;
         let next = listed.reading;
@@ -43,7 +43,7 @@ fn list_part(reading: Reading, left: u64, wire: &[u8]) -> State {
 // Writes the last line.
 fn finish(left: u64) {
     let mut out = io::buffer();
-    let n = lister::last_line(&mut out, left);
+    let n = tally::last_line(&mut out, left);
     io::write_all(STDOUT_FILENO, &out[0..n]);
 }
 

@@ -1,14 +1,14 @@
 use Prim.Native.Nat.{_-_}
-use mathlib.Core.Path.{_≡_, refl}
+use mathlib.Core.Path.{_≡_, sym}
 use mathlib.Core.Logic.{inl, inr}
 use native.Mathlib.Omega.{arith}
 use lib.ListN.{length}
 use borrow.Author.Needs.{needs}
 use Rattle.store.specs.WroteLaws.{kept}
 use Rattle.frame.specs.Reading.{takenAs, taken}
-use Rattle.lister.specs.ListingLaws.{Turn, turn, Going, going-none, going-more, going-lists}
-use Rattle.lister.proofs.list.Statement.{statement}
-use Rattle.lister.proofs.list.Tie as tie
+use Rattle.lister.specs.ListingLaws.{takes-state, Turn, turn, Going, going-none, going-more, going-lists}
+use Rattle.capture.proofs.list.Statement.{statement}
+use Rattle.capture.proofs.list.Tie as tie
 
 abbrev Inv-loop : tie.InvT-loop
 Inv-loop left wire out₀ bytes₀ place₀ at₀ written₀ out bytes place at written = Going (takenAs bytes₀ (place₀ .count) (place₀ .mode)) wire out₀ out bytes place at written
@@ -19,19 +19,19 @@ abbrev μ-loop : tie.MeasureT-loop
 -- the state that the lent record is taken as
 started : (c : tie.After-place-of Inv-loop μ-loop)
     → taken (c .before .before .before .before .args .reading) ≡ takenAs (c .before .before .before .before .args .reading .bytes) (c .place-of .result .count) (c .place-of .result .mode)
-started c = rw (c .place-of .ensures .0, c .place-of .ensures .1)
+started c = sym (takes-state _ _ _ (c .place-of .ensures))
 
 -- a call on the rest of the bytes
 turned : (c : tie.After-read-in Inv-loop μ-loop)
     → Turn (takenAs (c .before .before .before .before .before .before .before .before .before .before .args .reading .bytes) (c .before .before .before .before .before .before .place-of .result .count) (c .before .before .before .before .before .before .place-of .result .mode))
     (c .before .before .before .before .before .before .before .before .before .before .args .wire .now) (c .before .before .before .before .before .loop .at) (c .read-in .last .0) (c .read-in .result)
-turned c = turn _ _ _ _ _ _ (c .before .before .before .before .loop-test .taken) (c .read-in .ensures .full) (c .before .before .before .before .before .loop .inv .state) (c .read-in .ensures)
+turned c = turn _ _ _ _ _ _ (c .before .before .before .before .loop-test .taken) (c .before .before .before .before .before .loop .inv .state) (c .read-in .ensures)
 
 place-of-requires : tie.Need-place-of-requires Inv-loop μ-loop
 place-of-requires c κs = search needs
 
 loop-holds : tie.Need-loop-holds Inv-loop μ-loop
-loop-holds c = going-none _ _ _ _ _ (search needs) refl
+loop-holds c = going-none _ _ _ (search needs) (c .place-of .ensures)
 
 sub-if1 : tie.Need-sub-if1 Inv-loop μ-loop
 sub-if1 c = let g = c .before .loop .inv .fits in omega (arith, kept (c .before .loop .inv .wrote))
@@ -58,7 +58,7 @@ read-in-requires : tie.Need-read-in-requires Inv-loop μ-loop
 read-in-requires c κs = search needs
 
 outcome-line-requires : tie.Need-outcome-line-requires Inv-loop μ-loop
-outcome-line-requires c κs = omega (arith, c .before .before .before .before .before .before .before .loop .inv .fits, kept (c .before .before .before .before .before .before .before .loop .inv .wrote), c .before .before .before .before .before .if1 .left)
+outcome-line-requires c κs = search needs
 
 add-at : tie.Need-add-at Inv-loop μ-loop
 add-at c = let x = turned (c .before .before .before .before .before) in omega (arith, x .within)
@@ -67,7 +67,9 @@ loop-less : tie.Need-loop-less Inv-loop μ-loop
 loop-less c = let x = turned (c .before .before .before .before .before) in omega (arith, x .within, x .some)
 
 loop-again : tie.Need-loop-again Inv-loop μ-loop
-loop-again c = going-more (c .before .before .before .before .before .before .before .before .before .before .loop .inv) (turned (c .before .before .before .before .before)) (c .before .before .before .before .before .read-in .ensures .full) (c .before .before .outcome-line .ensures .0) (c .before .before .outcome-line .ensures .1)
+loop-again c =
+    let g = c .before .before .before .before .before .before .before .before .before .before .loop .inv in
+    going-more g (turned (c .before .before .before .before .before)) (omega (arith, g .fits, kept (g .wrote), c .before .before .before .before .before .before .before .before .if1 .left)) (c .before .before .outcome-line .ensures)
 
 answer-requires-2 : tie.Need-answer-requires-2 Inv-loop μ-loop
 answer-requires-2 c κs = c .before .loop .inv .within

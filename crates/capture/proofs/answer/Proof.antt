@@ -1,7 +1,7 @@
 use native.Mathlib.Nat.{sub-zero}
 use borrow.Author.Needs.{needs}
-use Rattle.lister.proofs.answer.Statement.{statement}
-use Rattle.lister.proofs.answer.Tie as tie
+use Rattle.capture.proofs.answer.Statement.{statement}
+use Rattle.capture.proofs.answer.Tie as tie
 
 sub-left-after : tie.Need-sub-left-after
 sub-left-after c = search needs

@@ -1,7 +1,8 @@
-use Rattle.lister.specs.ListingLaws.{appended-within}
+use native.Mathlib.Omega.{arith}
+use Rattle.text.specs.AppendedLaws.{appended-within}
 use borrow.Author.Needs.{needs}
-use Rattle.lister.proofs.last_line.Statement.{statement}
-use Rattle.lister.proofs.last_line.Tie as tie
+use Rattle.tally.proofs.last_line.Statement.{statement}
+use Rattle.tally.proofs.last_line.Tie as tie
 
 left-line-requires : tie.Need-left-line-requires
 left-line-requires c κs = search needs
@@ -12,7 +13,7 @@ same-length c = search needs
 returns : tie.Need-returns
 returns c =
     let x = c .before .before .left-line .ensures in
-    record { line = x; within = rw (x .place) (appended-within _ _) }
+    record { line = x; within = rw (x .place) (appended-within _ _ _ (omega arith)) }
 
 pub last-line-spec : {M : Type 1} → statement M
 last-line-spec = tie.close (tie.spec left-line-requires same-length returns)

@@ -7,10 +7,10 @@ use lib.Dec.{eqb}
 use borrow.Author.Needs.{needs}
 use borrow.Author.Tests.{eq-eqb, ne-eqb}
 use Rattle.frame.specs.Reading.{END}
 use Rattle.lister.specs.Listing.{leftAfter}
 use Rattle.lister.specs.ListingLaws.{left-more, whole-left}
-use Rattle.lister.proofs.left_after.Statement.{statement}
-use Rattle.lister.proofs.left_after.Tie as tie
+use Rattle.tally.proofs.left_after.Statement.{statement}
+use Rattle.tally.proofs.left_after.Tie as tie
 
 abbrev Inv-loop : tie.InvT-loop
 Inv-loop left wire n i₀ i = (i ≤ length wire) × (leftAfter left wire ≡ leftAfter left (take i wire) + (length wire - i))

@@ -1,0 +1,68 @@
+// The lines of a capture's outcomes, written part by part.
+// What is written for some bytes, and how the reading stands after them, is the definition's: crate lister, specs/Listing.antt,
+// specs/Lists.antt. It stands on what the frame layer, the listing and the text lines state.
+ghost use Prim.Native.Nat.{_≤_};
+ghost use mathlib.Core.Path.{_≡_};
+ghost use lib.ListN.{length};
+ghost use Rattle.line.specs.Code.{placeOf, Takes};
+ghost use Rattle.frame.specs.Reading.{taken};
+ghost use Rattle.lister.specs.Lists.{Lists, listedOf};
+use line::Place;
+use line::Reading;
+use lister::Listed;
+
+// No line is longer: with that much room a call goes on.
+pub const LINE: usize = lines::LINE;
+
+// Writes the lines of the outcomes of `wire` to the front of `out`, as long as there is room for any line.
+pub fn list(reading: Reading, left: u64, wire: &[u8], out: &mut [u8]) -> Listed
+    ensures { λ r. ⌜ Lists (taken reading) left (now (wire .entry)) (now (out .entry)) (now (out .exit)) r ⌝ }
+{
+    let mut bytes = reading.bytes;
+    let mut place = place_of(reading);
+    let mut at = 0;
+    let mut written = 0;
+    while at < wire.len() {
+        if out.len() - written < LINE {
+            return answer(bytes, place, left, wire, at, written);
+        }
+        let told = reader::read_in(&mut bytes, place, &wire[at..]);
+        let used = told.used;
+        let outcome = told.outcome;
+        let after = told.place;
+        written = listed::outcome_line(out, written, outcome);
+        place = after;
+        at += used;
+    }
+    answer(bytes, place, left, wire, at, written)
+}
+
+// The place that a lent record is taken at, so that the record given back claims no more than it holds.
+fn place_of(reading: Reading) -> Place
+    ensures { λ r. ⌜ Takes (placeOf reading) r ⌝ }
+{
+    escape::taken_at(escape::place_of(reading))
+}
+
+// The answer where the bytes before `at` were used.
+fn answer(
+    bytes: [u8; line::LIMIT],
+    place: Place,
+    left: u64,
+    wire: &[u8],
+    at: usize,
+    written: usize,
+) -> Listed
+    requires { ⌜ at ≤ length (now wire) ⌝ }
+    ensures { λ r. ⌜ r ≡ listedOf bytes place left (now (wire .entry)) at written ⌝ }
+{
+    let count = place.count;
+    let mode = place.mode;
+    let since = tally::left_after(left, &wire[0..at]);
+    Listed {
+        used: at,
+        written: written,
+        reading: Reading { bytes, count, mode },
+        left: since,
+    }
+}
