@@ -1,6 +1,6 @@
 // The directory's lines, appended to lent memory at a place.
 // A line is written whole or not at all, and is the definition's to the byte: specs/Lines.antt of `answers`.
-// It stands on the text's pieces of a line.
+// It stands on the pieces of a line: words, and numbers between them.
 ghost use Rattle.text.specs.Appended.{appended, Leaves};
 ghost use Rattle.answers.specs.Lines.{entryLine};
 
@@ -16,9 +16,6 @@ pub fn entry_line(out: &mut [u8], at: usize, command: u16, least: u8, greatest: 
         return at;
     }
     let gap = digits::append_hex4(out, at, command);
-    let low_digits = text::append(out, gap, b" ");
-    let next_gap = digits::append_decimal(out, low_digits, low);
-    let high_digits = text::append(out, next_gap, b" ");
-    let line_end = digits::append_decimal(out, high_digits, high);
-    text::append(out, line_end, b"\n")
+    let next_gap = numbered::append_numbered(out, gap, b" ", low, b"");
+    numbered::append_numbered(out, next_gap, b" ", high, b"\n")
 }

@@ -165,7 +165,7 @@ fn told_line(
     let spilled = report::spilled(room, n, FILLER);
     match outcome {
         Outcome::Nothing => replied::none_line(out, at, used, &room[0..n], spilled),
-        Outcome::Frame { command, len } => replied::frame_line(
+        Outcome::Frame { command, len } => outcomes::frame_line(
             out,
             at,
             used,
@@ -174,7 +174,7 @@ fn told_line(
             &room[0..n],
             spilled,
         ),
-        Outcome::Refused(refusal) => replied::packet_line(
+        Outcome::Refused(refusal) => outcomes::packet_line(
             out,
             at,
             used,
@@ -227,7 +227,7 @@ fn show_slot(slot: Slot, k: u8, out: &mut [u8], at: usize) -> usize {
     let number = slot.number;
     let line = slot.line;
     let nodes = slot.nodes;
-    shows::slot_line(out, at, k, number, line, nodes)
+    slotline::slot_line(out, at, k, number, line, nodes)
 }
 
 fn show_nodes(table: &[u8], out: &mut [u8], at: usize) -> usize

@@ -1,12 +1,9 @@
--- How long the pieces of a line are.
-use Prim.Native.Nat.{ℕ, zero, suc, _*_, _≤_, _<_}
-use mathlib.Core.List.{List}
-use mathlib.Core.Bool.{Bool, true, false}
+-- How long the word of a reading's mode is.
+use Prim.Native.Nat.{_≤_}
 use native.Mathlib.Omega.{arith}
-use lib.ListN.{length, length-append, getD}
+use lib.ListN.{length}
 use Rattle.text.specs.Text.{ascii}
-use Rattle.text.specs.DecimalLaws.{decimal-below}
-use Rattle.answers.specs.Shows.{nodeCount, nodeWord, nodesBelow, modeWord}
+use Rattle.answers.specs.Shows.{modeWord}
 use Rattle.answers.specs.declared.Mode.{Mode}
 use Rattle.answers.specs.declared.Mode.the-variants as mode
 
@@ -16,14 +13,3 @@ modeWord-short mode.Plain = omega arith
 modeWord-short mode.Escaped = omega arith
 modeWord-short mode.Skip1 = omega arith
 modeWord-short mode.Skip2 = omega arith
-
-pub nodeWord-short : (node : ℕ) (marked : Bool) → node < nodeCount → length (nodeWord node marked) ≤ 4
-unfolding nodeWord ascii
-nodeWord-short node true h = omega (arith, decimal-below 3 node (omega arith) (omega arith))
-nodeWord-short node false h = omega arith
-
-pub nodesBelow-short : (n : ℕ) (nodes : List Bool) → n ≤ nodeCount → length (nodesBelow n nodes) ≤ 4 * n
-unfolding nodesBelow
-nodesBelow-short zero nodes h = omega arith
-nodesBelow-short (suc n) nodes h =
-    omega (arith, length-append (nodesBelow n nodes) (nodeWord n (getD nodes n false)), nodesBelow-short n nodes (omega arith), nodeWord-short n (getD nodes n false) (omega arith))

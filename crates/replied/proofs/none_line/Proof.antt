@@ -2,11 +2,12 @@ use Prim.Native.Nat.{ℕ, _^_, _<_}
 use mathlib.Core.List.{_++_}
 use native.Mathlib.Omega.{arith}
 use lib.ListN.{length-replicate}
-use borrow.Author.Needs.{needs}
 use Rattle.text.specs.Text.{ascii, decimal}
 use Rattle.text.specs.Built.{Built}
-use Rattle.text.specs.BuiltLaws.{built-none, built-word, built-number, built-all, built-within, built-part}
+use Rattle.text.specs.BuiltLaws.{built-none, built-all, built-within, built-part}
 use Rattle.answers.specs.Report.{headSize, noneLine}
+use Rattle.numbered.specs.NumberedLaws.{built-numbered}
+use borrow.Author.Needs.{needs}
 use Rattle.replied.proofs.none_line.Statement.{statement}
 use Rattle.replied.proofs.none_line.Tie as tie
 
@@ -15,43 +16,27 @@ small : (c : tie.Start) → c .args .used < 2 ^ 64
 small c = omega arith
 
 -- the line up to its bytes
-built : (c : tie.After-append2) → let a = c .before .before .before .before .before .before .before .before .before .before .before .before .args in
-    Built headSize headSize (ascii "used " ++ decimal (a .used) ++ ascii " none reply ") (c .append2 .last .0) (c .append2 .result)
+built : (c : tie.After-append-numbered) → let a = c .before .before .before .before .before .before .args in
+    Built headSize headSize (ascii "used " ++ decimal (a .used) ++ ascii " none reply ") (c .append-numbered .last .0) (c .append-numbered .result)
 unfolding ascii
 built c =
-    let start = c .before .before .before .before .before .before .before .before .before .before .before .before in
+    let start = c .before .before .before .before .before .before in
     let a = start .args in
-    let p2 = c .before .before .before .before in
-    let p1 = p2 .before .before .before in
     built-all (omega arith)
-    (built-word (ascii " none reply ") (omega arith) (c .append2 .ensures)
-    (built-number (a .used) (small start) (omega arith) (p2 .append-decimal .ensures)
-    (built-word (ascii "used ") (omega arith) (p1 .append .ensures)
-    (built-none _ headSize (length-replicate {A = ℕ} headSize 0)))))
+    (built-numbered (ascii "used ") (a .used) (ascii " none reply ") (small start) (omega arith) (c .append-numbered .ensures)
+    (built-none _ headSize (length-replicate {A = ℕ} headSize 0)))
 
-slice-aggregate-append : tie.Need-slice-aggregate-append
-slice-aggregate-append c = search needs
+slice-aggregate-append-numbered : tie.Need-slice-aggregate-append-numbered
+slice-aggregate-append-numbered c = search needs
 
-slice-aggregate-append-2 : tie.Need-slice-aggregate-append-2
-slice-aggregate-append-2 c = search needs
+slice-aggregate-append-numbered-2 : tie.Need-slice-aggregate-append-numbered-2
+slice-aggregate-append-numbered-2 c = search needs
 
-append-requires : tie.Need-append-requires
-append-requires c κs = search needs
+slice-aggregate-append-numbered-3 : tie.Need-slice-aggregate-append-numbered-3
+slice-aggregate-append-numbered-3 c = search needs
 
-slice-aggregate-append-decimal : tie.Need-slice-aggregate-append-decimal
-slice-aggregate-append-decimal c = search needs
-
-append-decimal-requires : tie.Need-append-decimal-requires
-append-decimal-requires c κs = search needs
-
-slice-aggregate-append-3 : tie.Need-slice-aggregate-append-3
-slice-aggregate-append-3 c = search needs
-
-slice-aggregate-append-4 : tie.Need-slice-aggregate-append-4
-slice-aggregate-append-4 c = search needs
-
-append-requires-2 : tie.Need-append-requires-2
-append-requires-2 c κs = search needs
+append-numbered-requires : tie.Need-append-numbered-requires
+append-numbered-requires c κs = search needs
 
 sub-reply-line : tie.Need-sub-reply-line
 sub-reply-line c = search needs
@@ -76,14 +61,10 @@ pub none-line-spec : {M : Type 1} → statement M
 none-line-spec =
     tie.close
     (tie.spec
-    slice-aggregate-append
-    slice-aggregate-append-2
-    append-requires
-    slice-aggregate-append-decimal
-    append-decimal-requires
-    slice-aggregate-append-3
-    slice-aggregate-append-4
-    append-requires-2
+    slice-aggregate-append-numbered
+    slice-aggregate-append-numbered-2
+    slice-aggregate-append-numbered-3
+    append-numbered-requires
     sub-reply-line
     part-reply-line-start
     part-reply-line-end

@@ -1,57 +1,37 @@
-use Prim.Native.Nat.{ℕ, _^_, _<_}
+use Prim.Native.Nat.{ℕ}
 use mathlib.Core.List.{_++_}
 use native.Mathlib.Omega.{arith}
 use lib.ListN.{length-replicate}
-use borrow.Author.Needs.{needs}
 use Rattle.text.specs.Text.{ascii, decimal}
 use Rattle.text.specs.Built.{Built}
-use Rattle.text.specs.BuiltLaws.{built-none, built-word, built-number, built-all, built-within, built-part}
+use Rattle.text.specs.BuiltLaws.{built-none, built-all, built-within, built-part}
+use Rattle.numbered.specs.NumberedLaws.{built-numbered}
 use Rattle.answers.specs.Shows.{headSize, nodeLine}
+use borrow.Author.Needs.{needs}
 use Rattle.shows.proofs.node_line.Statement.{statement}
 use Rattle.shows.proofs.node_line.Tie as tie
 
--- numbers have no more than 64 bits
-small : (c : tie.Start) → c .args .node < 2 ^ 64
-small c = omega arith
-
 -- the line up to its bytes
-built : (c : tie.After-append2) → let a = c .before .before .before .before .before .before .before .before .before .before .before .before .args in
-    Built headSize headSize (ascii "node " ++ decimal (a .node) ++ ascii " ") (c .append2 .last .0) (c .append2 .result)
+built : (c : tie.After-append-numbered) → let a = c .before .before .before .before .before .before .args in
+    Built headSize headSize (ascii "node " ++ decimal (a .node) ++ ascii " ") (c .append-numbered .last .0) (c .append-numbered .result)
 unfolding ascii
 built c =
-    let start = c .before .before .before .before .before .before .before .before .before .before .before .before in
-    let a = start .args in
-    let p2 = c .before .before .before .before in
-    let p1 = p2 .before .before .before in
+    let a = c .before .before .before .before .before .before .args in
     built-all (omega arith)
-    (built-word (ascii " ") (omega arith) (c .append2 .ensures)
-    (built-number (a .node) (small start) (omega arith) (p2 .append-decimal .ensures)
-    (built-word (ascii "node ") (omega arith) (p1 .append .ensures)
-    (built-none _ headSize (length-replicate {A = ℕ} headSize 0)))))
+    (built-numbered (ascii "node ") (a .node) (ascii " ") (omega arith) (omega arith) (c .append-numbered .ensures)
+    (built-none _ headSize (length-replicate {A = ℕ} headSize 0)))
 
-slice-aggregate-append : tie.Need-slice-aggregate-append
-slice-aggregate-append c = search needs
+slice-aggregate-append-numbered : tie.Need-slice-aggregate-append-numbered
+slice-aggregate-append-numbered c = search needs
 
-slice-aggregate-append-2 : tie.Need-slice-aggregate-append-2
-slice-aggregate-append-2 c = search needs
+slice-aggregate-append-numbered-2 : tie.Need-slice-aggregate-append-numbered-2
+slice-aggregate-append-numbered-2 c = search needs
 
-append-requires : tie.Need-append-requires
-append-requires c κs = search needs
+slice-aggregate-append-numbered-3 : tie.Need-slice-aggregate-append-numbered-3
+slice-aggregate-append-numbered-3 c = search needs
 
-slice-aggregate-append-decimal : tie.Need-slice-aggregate-append-decimal
-slice-aggregate-append-decimal c = search needs
-
-append-decimal-requires : tie.Need-append-decimal-requires
-append-decimal-requires c κs = search needs
-
-slice-aggregate-append-3 : tie.Need-slice-aggregate-append-3
-slice-aggregate-append-3 c = search needs
-
-slice-aggregate-append-4 : tie.Need-slice-aggregate-append-4
-slice-aggregate-append-4 c = search needs
-
-append-requires-2 : tie.Need-append-requires-2
-append-requires-2 c κs = search needs
+append-numbered-requires : tie.Need-append-numbered-requires
+append-numbered-requires c κs = search needs
 
 sub-bytes-line : tie.Need-sub-bytes-line
 sub-bytes-line c = search needs
@@ -79,14 +59,10 @@ pub node-line-spec : {M : Type 1} → statement M
 node-line-spec =
     tie.close
     (tie.spec
-    slice-aggregate-append
-    slice-aggregate-append-2
-    append-requires
-    slice-aggregate-append-decimal
-    append-decimal-requires
-    slice-aggregate-append-3
-    slice-aggregate-append-4
-    append-requires-2
+    slice-aggregate-append-numbered
+    slice-aggregate-append-numbered-2
+    slice-aggregate-append-numbered-3
+    append-numbered-requires
     sub-bytes-line
     part-bytes-line-start
     part-bytes-line-end

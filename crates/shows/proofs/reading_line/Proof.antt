@@ -1,77 +1,15 @@
-use Prim.Native.Nat.{ℕ, _^_, _<_}
-use mathlib.Core.List.{_++_}
-use native.Mathlib.Omega.{arith}
-use lib.ListN.{length-replicate}
+use Rattle.text.specs.Text.{ascii}
+use Rattle.text.specs.BuiltLaws.{built-part}
+use Rattle.answers.specs.Shows.{readingLine}
 use borrow.Author.Needs.{needs}
-use Rattle.text.specs.Text.{ascii, decimal}
-use Rattle.text.specs.Built.{Built}
-use Rattle.text.specs.BuiltLaws.{built-none, built-more, built-word, built-number, built-all, built-within, built-part}
-use Rattle.answers.specs.Shows.{headSize, readingLine, modeWord}
-use Rattle.shows.specs.ShowsLaws.{modeWord-short}
 use Rattle.shows.proofs.reading_line.Statement.{statement}
 use Rattle.shows.proofs.reading_line.Tie as tie
 
--- numbers have no more than 64 bits
-small : (c : tie.Start) → c .args .line < 2 ^ 64
-small c = omega arith
+slice-aggregate-reading-head : tie.Need-slice-aggregate-reading-head
+slice-aggregate-reading-head c = search needs
 
--- the line up to its bytes
-built : (c : tie.After-append3) → let a = c .before .before .before .before .before .before .before .before .before .before .before .before .before .before .before .before .before .before .before .args in
-    Built headSize headSize (ascii "line " ++ decimal (a .line) ++ ascii " " ++ modeWord (a .mode) ++ ascii " ") (c .append3 .last .0) (c .append3 .result)
-unfolding ascii
-built c =
-    let start = c .before .before .before .before .before .before .before .before .before .before .before .before .before .before .before .before .before .before .before in
-    let a = start .args in
-    let p4 = c .before .before .before .before in
-    let p3 = p4 .before .before .before in
-    let p2 = p3 .before .before .before .before in
-    let p1 = p2 .before .before .before in
-    built-all (omega arith)
-    (built-word (ascii " ") (omega arith) (c .append3 .ensures)
-    (built-more (modeWord (a .mode)) 7 (modeWord-short (a .mode)) (omega arith) (p4 .mode-word .ensures)
-    (built-word (ascii " ") (omega arith) (p3 .append2 .ensures)
-    (built-number (a .line) (small start) (omega arith) (p2 .append-decimal .ensures)
-    (built-word (ascii "line ") (omega arith) (p1 .append .ensures)
-    (built-none _ headSize (length-replicate {A = ℕ} headSize 0)))))))
-
-slice-aggregate-append : tie.Need-slice-aggregate-append
-slice-aggregate-append c = search needs
-
-slice-aggregate-append-2 : tie.Need-slice-aggregate-append-2
-slice-aggregate-append-2 c = search needs
-
-append-requires : tie.Need-append-requires
-append-requires c κs = search needs
-
-slice-aggregate-append-decimal : tie.Need-slice-aggregate-append-decimal
-slice-aggregate-append-decimal c = search needs
-
-append-decimal-requires : tie.Need-append-decimal-requires
-append-decimal-requires c κs = search needs
-
-slice-aggregate-append-3 : tie.Need-slice-aggregate-append-3
-slice-aggregate-append-3 c = search needs
-
-slice-aggregate-append-4 : tie.Need-slice-aggregate-append-4
-slice-aggregate-append-4 c = search needs
-
-append-requires-2 : tie.Need-append-requires-2
-append-requires-2 c κs = search needs
-
-slice-aggregate-mode-word : tie.Need-slice-aggregate-mode-word
-slice-aggregate-mode-word c = search needs
-
-mode-word-requires : tie.Need-mode-word-requires
-mode-word-requires c κs = search needs
-
-slice-aggregate-append-5 : tie.Need-slice-aggregate-append-5
-slice-aggregate-append-5 c = search needs
-
-slice-aggregate-append-6 : tie.Need-slice-aggregate-append-6
-slice-aggregate-append-6 c = search needs
-
-append-requires-3 : tie.Need-append-requires-3
-append-requires-3 c κs = search needs
+reading-head-requires : tie.Need-reading-head-requires
+reading-head-requires c κs = search needs
 
 sub-bytes-line : tie.Need-sub-bytes-line
 sub-bytes-line c = search needs
@@ -80,7 +18,7 @@ part-bytes-line-start : tie.Need-part-bytes-line-start
 part-bytes-line-start c = search needs
 
 part-bytes-line-end : tie.Need-part-bytes-line-end
-part-bytes-line-end c = built-within (built (c .before .before .before))
+part-bytes-line-end c = search needs
 
 slice-aggregate-bytes-line : tie.Need-slice-aggregate-bytes-line
 slice-aggregate-bytes-line c = search needs
@@ -93,25 +31,14 @@ same-length c = search needs
 
 returns : tie.Need-returns
 unfolding readingLine ascii
-returns c = rw (built-part (built (c .before .before .before .before .before .before .before .before))) at (c .before .before .bytes-line .ensures)
+returns c = rw (built-part (c .before .before .before .before .before .before .before .before .reading-head .ensures)) at (c .before .before .bytes-line .ensures)
 
 pub reading-line-spec : {M : Type 1} → statement M
 reading-line-spec =
     tie.close
     (tie.spec
-    slice-aggregate-append
-    slice-aggregate-append-2
-    append-requires
-    slice-aggregate-append-decimal
-    append-decimal-requires
-    slice-aggregate-append-3
-    slice-aggregate-append-4
-    append-requires-2
-    slice-aggregate-mode-word
-    mode-word-requires
-    slice-aggregate-append-5
-    slice-aggregate-append-6
-    append-requires-3
+    slice-aggregate-reading-head
+    reading-head-requires
     sub-bytes-line
     part-bytes-line-start
     part-bytes-line-end

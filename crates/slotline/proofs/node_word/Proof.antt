@@ -6,8 +6,8 @@ use Rattle.text.specs.Text.{ascii}
 use Rattle.text.specs.DecimalLaws.{decimal-below}
 use Rattle.text.specs.AppendedLaws.{leaves-wrote}
 use Rattle.answers.specs.Shows.{nodeWord}
-use Rattle.shows.proofs.node_word.Statement.{statement}
-use Rattle.shows.proofs.node_word.Tie as tie
+use Rattle.slotline.proofs.node_word.Statement.{statement}
+use Rattle.slotline.proofs.node_word.Tie as tie
 
 returns : tie.Need-returns
 unfolding nodeWord

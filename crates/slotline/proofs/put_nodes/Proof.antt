@@ -5,9 +5,9 @@ use native.Mathlib.Omega.{arith}
 use Rattle.store.specs.Wrote.{Wrote}
 use Rattle.store.specs.WroteLaws.{none, then, kept}
 use Rattle.answers.specs.Shows.{nodeCount, nodesBelow}
-use Rattle.shows.specs.ShowsLaws.{nodesBelow-short}
-use Rattle.shows.proofs.put_nodes.Statement.{statement}
-use Rattle.shows.proofs.put_nodes.Tie as tie
+use Rattle.slotline.specs.SlotLaws.{nodesBelow-short}
+use Rattle.slotline.proofs.put_nodes.Statement.{statement}
+use Rattle.slotline.proofs.put_nodes.Tie as tie
 
 -- The marked nodes below `node` are stored, and nothing else is.
 abbrev Inv-loop : tie.InvT-loop

@@ -1,0 +1,34 @@
+// A number between two words, appended to lent memory at a place: what most of the programs' lines are made of.
+// The three are written whole or not at all, and are the definition's to the byte: crate text, specs/Text.antt, specs/Appended.antt.
+// It stands on the text's words and the digits' numbers.
+ghost use Prim.Native.Nat.{_-_};
+ghost use mathlib.Core.Path.{_≡_};
+ghost use mathlib.Core.List.{_++_};
+ghost use Rattle.text.specs.Text.{decimal};
+ghost use Rattle.text.specs.Appended.{appended, Leaves};
+
+// A word, a number in base ten and a word.
+pub fn append_numbered(
+    out: &mut [u8],
+    at: usize,
+    before: &[u8],
+    number: u64,
+    behind: &[u8],
+) -> usize
+    ensures { λ r. ⌜ Leaves (appended (now (out .entry)) at (now (before .entry) ++ decimal number ++ now (behind .entry))) (now (out .exit)) r ⌝ }
+{
+    if left(out.len(), at, before.len(), behind.len()) < digits::width(number) {
+        return at;
+    }
+    let digits = text::append(out, at, before);
+    let last = digits::append_decimal(out, digits, number);
+    text::append(out, last, behind)
+}
+
+// How many of `len` bytes from `at` on two words leave.
+fn left(len: usize, at: usize, before: usize, behind: usize) -> usize
+    ensures { λ r. ⌜ r ≡ len - at - before - behind ⌝ }
+{
+    let room = text::room(len, at);
+    text::room(text::room(room, before), behind)
+}

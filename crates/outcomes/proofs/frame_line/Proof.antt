@@ -1,0 +1,99 @@
+use Prim.Native.Nat.{ℕ, _^_, _<_}
+use mathlib.Core.List.{_++_}
+use native.Mathlib.Omega.{arith}
+use lib.ListN.{length-replicate}
+use Rattle.text.specs.Text.{ascii, decimal, hex4}
+use Rattle.text.specs.Built.{Built}
+use Rattle.text.specs.BuiltLaws.{built-none, built-word, built-all, built-within, built-part}
+use Rattle.answers.specs.Report.{headSize, frameLine}
+use Rattle.numbered.specs.NumberedLaws.{built-numbered}
+use borrow.Author.Needs.{needs}
+use Rattle.outcomes.proofs.frame_line.Statement.{statement}
+use Rattle.outcomes.proofs.frame_line.Tie as tie
+
+-- numbers have no more than 64 bits
+small : (c : tie.Start) → (c .args .used < 2 ^ 64) × (c .args .len < 2 ^ 64)
+small c = (omega arith, omega arith)
+
+-- the line up to its bytes
+built : (c : tie.After-append-numbered2) → let a = c .before .before .before .before .before .before .before .before .before .before .before .before .before .before .args in
+    Built headSize headSize (ascii "used " ++ decimal (a .used) ++ ascii " frame " ++ hex4 (a .command) ++ ascii " data " ++ decimal (a .len) ++ ascii " reply ") (c .append-numbered2 .last .0) (c .append-numbered2 .result)
+unfolding ascii
+built c =
+    let start = c .before .before .before .before .before .before .before .before .before .before .before .before .before .before in
+    let a = start .args in
+    built-all (omega arith)
+    (built-numbered (ascii " data ") (a .len) (ascii " reply ") (small start .1) (omega arith) (c .append-numbered2 .ensures)
+    (built-word (hex4 (a .command)) (omega arith) (c .before .before .before .before .before .append-hex4 .ensures)
+    (built-numbered (ascii "used ") (a .used) (ascii " frame ") (small start .0) (omega arith) (c .before .before .before .before .before .before .before .before .append-numbered .ensures)
+    (built-none _ headSize (length-replicate {A = ℕ} headSize 0)))))
+
+slice-aggregate-append-numbered : tie.Need-slice-aggregate-append-numbered
+slice-aggregate-append-numbered c = search needs
+
+slice-aggregate-append-numbered-2 : tie.Need-slice-aggregate-append-numbered-2
+slice-aggregate-append-numbered-2 c = search needs
+
+slice-aggregate-append-numbered-3 : tie.Need-slice-aggregate-append-numbered-3
+slice-aggregate-append-numbered-3 c = search needs
+
+append-numbered-requires : tie.Need-append-numbered-requires
+append-numbered-requires c κs = search needs
+
+slice-aggregate-append-hex4 : tie.Need-slice-aggregate-append-hex4
+slice-aggregate-append-hex4 c = search needs
+
+append-hex4-requires : tie.Need-append-hex4-requires
+append-hex4-requires c κs = search needs
+
+slice-aggregate-append-numbered-4 : tie.Need-slice-aggregate-append-numbered-4
+slice-aggregate-append-numbered-4 c = search needs
+
+slice-aggregate-append-numbered-5 : tie.Need-slice-aggregate-append-numbered-5
+slice-aggregate-append-numbered-5 c = search needs
+
+slice-aggregate-append-numbered-6 : tie.Need-slice-aggregate-append-numbered-6
+slice-aggregate-append-numbered-6 c = search needs
+
+append-numbered-requires-2 : tie.Need-append-numbered-requires-2
+append-numbered-requires-2 c κs = search needs
+
+sub-reply-line : tie.Need-sub-reply-line
+sub-reply-line c = search needs
+
+part-reply-line-start : tie.Need-part-reply-line-start
+part-reply-line-start c = search needs
+
+part-reply-line-end : tie.Need-part-reply-line-end
+part-reply-line-end c = built-within (built (c .before .before .before))
+
+reply-line-requires : tie.Need-reply-line-requires
+reply-line-requires c κs = search needs
+
+same-length : tie.Need-same-length
+same-length c = search needs
+
+returns : tie.Need-returns
+unfolding frameLine ascii
+returns c = rw (built-part (built (c .before .before .before .before .before .before .before))) at (c .before .before .reply-line .ensures)
+
+pub frame-line-spec : {M : Type 1} → statement M
+frame-line-spec =
+    tie.close
+    (tie.spec
+    slice-aggregate-append-numbered
+    slice-aggregate-append-numbered-2
+    slice-aggregate-append-numbered-3
+    append-numbered-requires
+    slice-aggregate-append-hex4
+    append-hex4-requires
+    slice-aggregate-append-numbered-4
+    slice-aggregate-append-numbered-5
+    slice-aggregate-append-numbered-6
+    append-numbered-requires-2
+    sub-reply-line
+    part-reply-line-start
+    part-reply-line-end
+    reply-line-requires
+    same-length
+    returns)
