@@ -33,7 +33,7 @@ backs R #record #told a n r = seq (call #record (copy (place a []) ∷ []) (plac
 
 -- a local whose place in the environment is known, and what a reference in one refers to
 module _ {M : Type 1} {𝓤 : URA M} {H : Heap 𝓤} {A : Atoms 𝓤} {K : Type 0} {W : Given 𝓤 H A} {Γ : List (Item 𝓤)} {E : Env 𝓤 H} {i : ℕ} {ρ : Ty} {l : ℕ} where
-  there : K → spotOf 𝓤 H E i ≡ (ρ, l, 0) → Finds K W Γ E (place i []) (ρ, l, 0)
+  pub there : K → spotOf 𝓤 H E i ≡ (ρ, l, 0) → Finds K W Γ E (place i []) (ρ, l, 0)
   there x e = subst (λ (sp : Spot 𝓤 H). Finds K W Γ E (place i []) sp) e (from x (stop x))
 
   behind : K → spotOf 𝓤 H E i ≡ (ρ, l, 0) → {b o : ℕ} {τ : Ty} (n : ℕ) → nth 𝓤 H A n Γ ≡ ‵ (fat fullShare ρ l 0 (vptr b o)) → Finds K W Γ E (place i (deref τ ∷ [])) (τ, b, o)
