@@ -314,7 +314,7 @@ fn enrol(state: State, table: &mut [u8], node: u8, kind: u16, out: &mut [u8], at
 fn close(state: State, line: u8, out: &mut [u8], at: usize) -> Played {
     let before = state.hub;
     let readings = state.readings;
-    let closed = hub::close(before, reading_of(readings, line), line);
+    let closed = lending::close(before, reading_of(readings, line), line);
     let next = closed.hub;
     let reading = closed.reading;
     let answer = closed.answer;
@@ -367,7 +367,7 @@ fn feed(
     let n = least(decoding::decode(word, &mut bytes), DATA);
     let mut space = [FILLER; ROOM];
     let room: &mut [u8] = &mut space;
-    let fed = hub::feed(
+    let fed = lending::feed(
         before,
         table,
         lent_reading,
