@@ -1,5 +1,8 @@
 // Boundary cases, run and held to the file stdout: the line reader on wire bytes, whole and cut in two at every place,
-// and on records that claim too much; the frame writer at its limits, each frame that it writes read back; packets through their view.
+// and on records that claim too much; the frame writer at its limits, each frame that it writes read back; packets through their view;
+// records that claim too much, lent to the hub.
+use calls::Fed;
+use calls::FeedAnswer;
 use frame::Written;
 use frame::WrittenAt;
 use libc::STDOUT_FILENO;
@@ -479,6 +482,53 @@ fn show_empty_views() {
     show_view(b"P11", b"\x00\x03\x00\x01\x03");
 }
 
+// What a feed tells.
+fn put_fed(text: Text, answer: FeedAnswer) -> Text {
+    match answer {
+        FeedAnswer::Told { used, outcome, len } => {
+            let t = put_frame(put_decimal(put_all(text, b" used "), used), outcome);
+            put_decimal(put_all(t, b" reply "), len)
+        }
+        FeedAnswer::Refused(_) => put_all(text, b" refused"),
+    }
+}
+
+// A lent record of any mode and count, fed to a hub before any start: the bytes of P3 behind its first END.
+fn show_fed(mode: Mode, count: usize) {
+    let reading = Reading {
+        bytes: [0x55u8; 255],
+        count: count,
+        mode: mode,
+    };
+    let mut table = [0u8; 14400];
+    let mut room = [0xA5u8; 512];
+    let wire = b"\x00\x03\x00\x01\x02\xC0";
+    let fed = lending::feed(host::first(), &mut table, reading, 0, wire, &mut room);
+    show_told(mode, count, fed);
+}
+
+fn show_told(mode: Mode, count: usize, fed: Fed) {
+    let answer = fed.answer;
+    let after = fed.reading;
+    let title = put_all(
+        put_decimal(put_mode(put_all(empty(), b"hub"), mode), count),
+        b":",
+    );
+    print(put_all(
+        put_reading(put_all(put_fed(title, answer), b" |"), after),
+        b"\n",
+    ));
+}
+
+// Records that the hub takes as emptied, and as skipping with none.
+fn show_hub() {
+    show_fed(Mode::Plain, 0);
+    show_fed(Mode::Plain, 256);
+    show_fed(Mode::Escaped, 256);
+    show_fed(Mode::Skipping(Fault::WrongEscape), 3);
+    show_fed(Mode::Skipping(Fault::TooLong), 256);
+}
+
 fn main() {
     show_short();
     show_escapes();
@@ -494,4 +544,5 @@ fn main() {
     show_limits();
     show_views();
     show_empty_views();
+    show_hub();
 }
