@@ -1,6 +1,10 @@
 // The lines of the listing, appended to lent memory at a place.
 // A line is written whole or not at all, and is the definition's to the byte: specs/Lines.antt of `answers`.
-// It stands on the pieces of a line: words, and numbers between them.
+// It stands on the text's pieces of a line.
+ghost use Prim.Native.Nat.{_+_, _≤_};
+ghost use mathlib.Core.List.{_++_};
+ghost use lib.ListN.{length};
+ghost use Rattle.text.specs.Text.{ascii, decimal};
 ghost use Rattle.text.specs.Appended.{appended, Leaves};
 ghost use Rattle.answers.specs.Lines.{frameLine, refusedLine, leftLine};
 
@@ -18,19 +22,35 @@ pub fn frame_line(out: &mut [u8], at: usize, command: u16, len: usize) -> usize
     }
     let hex = text::append(out, at, b"frame ");
     let word = digits::append_hex4(out, hex, command);
-    numbered::append_numbered(out, word, b" data ", number, b"\n")
+    let digits = text::append(out, word, b" data ");
+    let end = digits::append_decimal(out, digits, number);
+    text::append(out, end, b"\n")
 }
 
 // "refused N": a refusal's number.
 pub fn refused_line(out: &mut [u8], at: usize, number: u8) -> usize
     ensures { λ r. ⌜ Leaves (appended (now (out .entry)) at (refusedLine number)) (now (out .exit)) r ⌝ }
 {
-    numbered::append_numbered(out, at, b"refused ", number as u64, b"\n")
+    number_line(out, at, b"refused ", number as u64)
 }
 
 // "left N": how many bytes are left.
 pub fn left_line(out: &mut [u8], at: usize, left: u64) -> usize
     ensures { λ r. ⌜ Leaves (appended (now (out .entry)) at (leftLine left)) (now (out .exit)) r ⌝ }
 {
-    numbered::append_numbered(out, at, b"left ", left, b"\n")
+    number_line(out, at, b"left ", left)
+}
+
+// A short word, a number and the line's end.
+fn number_line(out: &mut [u8], at: usize, word: &[u8], number: u64) -> usize
+    requires { ⌜ length (now word) ≤ 8 ⌝ }
+    ensures { λ r. ⌜ Leaves (appended (now (out .entry)) at (now (word .entry) ++ decimal number ++ ascii "\n")) (now (out .exit)) r ⌝ }
+{
+    let count = digits::width(number);
+    if text::room(out.len(), at) < word.len() + count + 1 {
+        return at;
+    }
+    let digits = text::append(out, at, word);
+    let last = digits::append_decimal(out, digits, number);
+    text::append(out, last, b"\n")
 }

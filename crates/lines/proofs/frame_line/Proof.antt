@@ -1,13 +1,12 @@
 use Prim.Native.Nat.{_+_, _≤_}
 use native.Mathlib.Omega.{arith}
 use lib.ListN.{length}
-use Rattle.text.specs.Text.{ascii, hex4}
+use borrow.Author.Needs.{needs}
+use Rattle.text.specs.Text.{ascii, decimal, hex4}
 use Rattle.answers.specs.Lines.{frameLine}
 use Rattle.text.specs.AppendedLaws.{leaves-whole, leaves-none, fitting-first, fitting-then}
 use Rattle.text.specs.DecimalLaws.{decimal-short}
 use Rattle.answers.specs.LinesLaws.{length-frameLine}
-use Rattle.numbered.specs.NumberedLaws.{fitting-numbered}
-use borrow.Author.Needs.{needs}
 use Rattle.lines.proofs.frame_line.Statement.{statement}
 use Rattle.lines.proofs.frame_line.Tie as tie
 
@@ -38,14 +37,20 @@ append-requires c κs = search needs
 append-hex4-requires : tie.Need-append-hex4-requires
 append-hex4-requires c κs = search needs
 
-slice-aggregate-append-numbered : tie.Need-slice-aggregate-append-numbered
-slice-aggregate-append-numbered c = search needs
+slice-aggregate-append-2 : tie.Need-slice-aggregate-append-2
+slice-aggregate-append-2 c = search needs
 
-slice-aggregate-append-numbered-2 : tie.Need-slice-aggregate-append-numbered-2
-slice-aggregate-append-numbered-2 c = search needs
+append-requires-2 : tie.Need-append-requires-2
+append-requires-2 c κs = search needs
 
-append-numbered-requires : tie.Need-append-numbered-requires
-append-numbered-requires c κs = search needs
+append-decimal-requires : tie.Need-append-decimal-requires
+append-decimal-requires c κs = search needs
+
+slice-aggregate-append-3 : tie.Need-slice-aggregate-append-3
+slice-aggregate-append-3 c = search needs
+
+append-requires-3 : tie.Need-append-requires-3
+append-requires-3 c κs = search needs
 
 same-length : tie.Need-same-length
 same-length c = search needs
@@ -54,11 +59,15 @@ returns-2 : tie.Need-returns-2
 unfolding frameLine ascii
 returns-2 c =
     let end = c .before .before in
-    let hex = end .before .before .before .before .before .before in
+    let number = end .before .before .before .before .before in
+    let word = number .before .before .before .before in
+    let hex = word .before .before .before .before .before in
     let first = hex .before .before .before .before in
     let a = first .before .before .before .before .before .before .before .args in
-    let word = fitting-then (hex4 (a .command)) (fitting-first (first .append .ensures)) (hex .append-hex4 .ensures) in
-    let whole = fitting-numbered (ascii " data ") (a .len) (ascii "\n") word (end .append-numbered .ensures) in
+    let w2 = fitting-then (hex4 (a .command)) (fitting-first (first .append .ensures)) (hex .append-hex4 .ensures) in
+    let w3 = fitting-then (ascii " data ") w2 (word .append2 .ensures) in
+    let w4 = fitting-then (decimal (a .len)) w3 (number .append-decimal .ensures) in
+    let whole = fitting-then (ascii "\n") w4 (end .append3 .ensures) in
     let fit = fitted (first .before .before .before) in
     leaves-whole (whole fit) fit
 
@@ -73,8 +82,10 @@ frame-line-spec =
     slice-aggregate-append
     append-requires
     append-hex4-requires
-    slice-aggregate-append-numbered
-    slice-aggregate-append-numbered-2
-    append-numbered-requires
+    slice-aggregate-append-2
+    append-requires-2
+    append-decimal-requires
+    slice-aggregate-append-3
+    append-requires-3
     same-length
     returns-2)
