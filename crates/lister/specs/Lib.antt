@@ -2,3 +2,4 @@ pub mod Listing
 pub mod Lists
 pub mod ListingLaws
 pub mod Whole
+pub mod ListingVectors

@@ -1,5 +1,5 @@
 // The listing's type and definitions: a line for each outcome of a capture, and the wire bytes since the last END.
-// The definition is specs/Listing.antt; what a call promises is specs/Lists.antt. The code is in `tally` and `capture`.
+// The definition is specs/Listing.antt; what a call promises is specs/Lists.antt. The code is in `listed`, `tally` and `capture`.
 // It stands on what the frame layer and the text lines state.
 use line::Reading;
 
