@@ -1,11 +1,17 @@
--- What is served and answered with a table or room of another length, computed.
+-- The numbers of the refusals, and what is served and answered with a table or room of another length, computed.
 use mathlib.Core.Path.{_≡_, refl}
 use mathlib.Core.List.{[], _∷_, map}
 use lib.ListN.{replicate}
 use Rattle.frame.specs.Frame.{wire, escape, framed, body}
 use Rattle.frame.specs.Xor as xor
 use Rattle.rules.specs.Hub.{firstHub, Reply}
+use Rattle.calls.specs.declared.Refusal.the-variants as cause
+use Rattle.calls.specs.Answers.{number}
 use Rattle.calls.specs.Replies.{served, refusal}
+
+numbers : map number (cause.WrongTable ∷ cause.WrongLine ∷ cause.ShortRoom ∷ cause.WrongNode ∷ cause.NodeInUse ∷ cause.NotOpen ∷ cause.WrongPassword ∷ [])
+    ≡ 7 ∷ 8 ∷ 9 ∷ 11 ∷ 12 ∷ 13 ∷ 14 ∷ []
+numbers = refl
 
 -- a refused packet is answered with the error frame and byte 2, in 512 bytes of room or more
 refused : refusal (replicate 511 0) ∷ refusal (replicate 512 0) ∷ [] ≡ [] ∷ (0xC0 ∷ 0x00 ∷ 0x04 ∷ 0x00 ∷ 0x00 ∷ 0x02 ∷ 0x06 ∷ 0xC0 ∷ []) ∷ []

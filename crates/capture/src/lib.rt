@@ -4,7 +4,7 @@
 ghost use Prim.Native.Nat.{_≤_};
 ghost use mathlib.Core.Path.{_≡_};
 ghost use lib.ListN.{length};
-ghost use Rattle.line.specs.Code.{placeOf, Takes};
+ghost use Rattle.frame.specs.Line.{placeOf, Takes};
 ghost use Rattle.frame.specs.Reading.{taken};
 ghost use Rattle.lister.specs.Lists.{Lists, listedOf};
 use line::Place;

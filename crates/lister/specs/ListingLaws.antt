@@ -14,10 +14,7 @@ use borrow.Author.Tests.{le-ltb}
 use Rattle.store.specs.Wrote.{Wrote}
 use Rattle.store.specs.WroteLaws.{none as wrote-none, then, kept, front-to, rest}
 use Rattle.line.specs.declared.Place.{Place}
-use Rattle.line.specs.Reader.{limit}
-use Rattle.line.specs.Pieces.{last}
-use Rattle.line.specs.Answers.{Clear}
-use Rattle.line.specs.Code.{Takes}
+use Rattle.frame.specs.Line.{limit, last, Clear, Takes}
 use Rattle.frame.specs.declared.Outcome.{Outcome as Given}
 use Rattle.frame.specs.declared.Outcome.the-variants as given
 use Rattle.frame.specs.declared.Refusal.{Refusal}
@@ -209,4 +206,4 @@ lists-some s k w before after r room h x = go (r .used) refl
     go (suc n) e = omega arith
     go zero e =
         let z : r .written ≡ 0 = x .written ∙ rw e in
-        ⊎-elim (λ (y : r .used ≡ length w). omega arith) (λ (y : length before < r .written + LINE). absurd (omega arith)) (x .stops)
+        ⊎-elim (λ y. omega arith) (λ y. absurd (omega arith)) (x .stops)

@@ -6,8 +6,7 @@ use mathlib.Core.Logic.{_⊎_}
 use lib.ListN.{length, take, drop}
 use Rattle.line.specs.declared.Reading.{Reading}
 use Rattle.line.specs.declared.Place.{Place}
-use Rattle.line.specs.Reader.{limit}
-use Rattle.line.specs.Answers.{Clear}
+use Rattle.frame.specs.Line.{limit, Clear}
 use Rattle.frame.specs.declared.Outcome.{Outcome as Given}
 use Rattle.frame.specs.declared.Outcome.the-variants as given
 use Rattle.frame.specs.Frame.{refusal}

@@ -4,7 +4,6 @@
 ghost use Prim.Native.Nat.{_≤_, _<_};
 ghost use mathlib.Core.Path.{_≡_};
 ghost use lib.ListN.{length};
-ghost use Rattle.frame.specs.Frame.{refusal as refusalNumber};
 ghost use Rattle.calls.specs.Answers.{number};
 use calls::CallAnswer;
 use calls::FeedAnswer;
@@ -110,19 +109,6 @@ fn number_of(refusal: calls::Refusal) -> u8
     }
 }
 
-fn packet_number(refusal: frame::Refusal) -> u8
-    ensures { λ r. ⌜ r ≡ refusalNumber refusal ⌝ }
-{
-    match refusal {
-        frame::Refusal::WrongEscape => 1,
-        frame::Refusal::TooLong => 2,
-        frame::Refusal::TooShort => 3,
-        frame::Refusal::WrongProtocol => 4,
-        frame::Refusal::WrongLength => 5,
-        frame::Refusal::WrongCheck => 6,
-    }
-}
-
 fn call_line(out: &mut [u8], at: usize, answer: CallAnswer) -> usize {
     match answer {
         CallAnswer::Done => report::done_line(out, at),
@@ -178,7 +164,7 @@ fn told_line(
             out,
             at,
             used,
-            packet_number(refusal),
+            listed::number_of(refusal),
             &room[0..n],
             spilled,
         ),
