@@ -49,8 +49,7 @@ pub record Demand3 : Type 0 where
 pub demand-3 : Demand3
 demand-3 = record { first = λ l F d. rules.demand-3 .first l (feedsOf F) d; second = λ l F a. rules.demand-3 .second l (feedsOf F) a }
 
--- Demands 1 and 2, and no motor in two sessions, clause by clause as in Demands. That such lists exist is not said here: the calls'
--- own code makes them.
+-- Demands 1 and 2, and no motor in two sessions, clause by clause as in Demands. Such lists exist from any memory: LentRuns.
 pub record Demands : Type 0 where
   pub exactly : {m v : Memory} {s : Step} {o : Return} → Call m s o v → refusalTold o ≡ refusal m s
   pub untouched : {m v : Memory} {s : Step} {o : Return} → Call m s o v → (n : ℕ) → refusalTold o ≡ some n → Untouched m s o v

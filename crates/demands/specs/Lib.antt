@@ -10,3 +10,4 @@ pub mod OneHolder
 pub mod Demands
 pub mod LentCalls
 pub mod LentDemands
+pub mod LentRuns

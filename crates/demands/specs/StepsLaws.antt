@@ -146,7 +146,7 @@ close-any h r l = go (rules.closeRefusal l) refl
     )
 
 -- any call
-made-any : (m : Memory) (s : Step) → (o : Return) × (v : Memory) × Made m s o v
+pub made-any : (m : Memory) (s : Step) → (o : Return) × (v : Memory) × Made m s o v
 made-any m (start p) = (started (rules.start (m .hub) (m .table) p), _, starts refl)
 made-any m (enrol n type) = (enrolled (rules.enrol (m .table) n type), _, enrols refl)
 made-any m (close l spare) = let (o, x) = close-any (m .hub) (lineRecord m l spare) l in (closed o, _, closes x)

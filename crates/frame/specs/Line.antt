@@ -6,4 +6,4 @@ unfoldable pub use Rattle.line.specs.Pieces.{closed, last, pieceOutcomes, writt
 pub use Rattle.line.specs.Answers.{Clear}
 pub use Rattle.line.specs.Code.{placeOf, Takes}
 pub use Rattle.line.specs.PieceLaws.{taken-held}
-pub use Rattle.line.specs.HeldLaws.{recordOf, taken-record}
+pub use Rattle.line.specs.HeldLaws.{recordOf, taken-record, record-bounded}

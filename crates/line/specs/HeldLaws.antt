@@ -15,7 +15,7 @@ use Rattle.line.specs.declared.Reading.{Reading}
 use Rattle.line.specs.Wire.{END, ESC, ESC-END, ESC-ESC}
 use Rattle.line.specs.Scan.{onward, scan}
 use Rattle.line.specs.Reader.{limit, wrongEscape, tooLong, State, plain, escaped, skipping, emptied, held, Outcome, decoded, inner, close, step, read}
-use Rattle.line.specs.Answers.{taken}
+use Rattle.line.specs.Answers.{taken, Clear}
 
 -- A record with these bytes held, and zeros beyond.
 padded : List ℕ → Mode → Reading
@@ -33,6 +33,13 @@ unfolding recordOf padded
 taken-record (plain h) x = rw (le-ltb limit (length h) x, take-append-seam h (replicate (limit - length h) 0))
 taken-record (escaped h) x = rw (le-ltb limit (length h) x, take-append-seam h (replicate (limit - length h) 0))
 taken-record (skipping f) x = refl
+
+-- It claims no more than 255 bytes, and none while it skips.
+pub record-bounded : (s : State) → length (held s) ≤ limit → (recordOf s .count ≤ limit) × Clear (recordOf s .mode) (recordOf s .count)
+unfolding recordOf padded
+record-bounded (plain h) x = (x, tt)
+record-bounded (escaped h) x = (x, tt)
+record-bounded (skipping f) x = (x, refl)
 
 -- A byte more, and no more than 255 are held.
 decoded-held : (h : List ℕ) (b : ℕ) → length h ≤ limit → length (held (decoded h b)) ≤ limit
