@@ -9,11 +9,16 @@ use Rattle.line.specs.declared.Answer.{Answer}
 use Rattle.line.specs.Scan.{also, Scan, outcomes, final}
 use Rattle.line.specs.ScanLaws.{also-append, outcomes-append, final-append, Tells, scan-tells, used-within, used-some}
 use Rattle.line.specs.Reader.{State, emptied, Outcome, step, read}
-use Rattle.line.specs.Answers.{taken, emptiedReading, told, seen, Answers, Calls, done, next}
+use Rattle.line.specs.Answers.{takenAs, taken, emptiedReading, told, seen, Answers, Calls, done, next}
+use Rattle.line.specs.Code.{placeOf}
 
 -- the emptied record is taken as the state between packets
 pub emptied-taken : taken emptiedReading ≡ emptied
 emptied-taken = refl
+
+-- a record is taken by its bytes and its place
+pub place-taken : (r : Reading) → takenAs (r .bytes) (placeOf r .count) (placeOf r .mode) ≡ taken r
+place-taken r = refl
 
 -- an answer tells what the bytes that it used give
 pub answer-tells : (s : Reading) (w : List ℕ) (r : Answer) → Answers (read (taken s) w) r → Tells step (taken s) w (seen r)
