@@ -26,9 +26,17 @@ named-found : map (λ (e : Entry). find (e .number) directory) named ≡ map som
 unfolding find directory named
 named-found = refl
 
--- 0102 has layouts of 2 bytes and of 13 to 112; 020A and 020B left the list in version 3.17
+-- the first and the last command; 0102 has layouts of 2 bytes and of 13 to 112, 0411 of 71 to 247; 020A and 020B left the list in version 3.17
 edges :
-    verdict 0x0102 1 ∷ verdict 0x0102 2 ∷ verdict 0x0102 112 ∷ verdict 0x0102 113 ∷ verdict 0x020A 2 ∷ verdict 0x020B 2 ∷ []
-    ≡ WrongLength ∷ Fits ∷ Fits ∷ WrongLength ∷ Unknown ∷ Unknown ∷ []
+    verdict 0x0000 1 ∷ verdict 0x3004 32
+    ∷ verdict 0x0102 1 ∷ verdict 0x0102 2 ∷ verdict 0x0102 112 ∷ verdict 0x0102 113
+    ∷ verdict 0x0411 70 ∷ verdict 0x0411 71 ∷ verdict 0x0411 247 ∷ verdict 0x0411 248
+    ∷ verdict 0x020A 2 ∷ verdict 0x020B 2
+    ∷ []
+    ≡ Fits ∷ Fits
+    ∷ WrongLength ∷ Fits ∷ Fits ∷ WrongLength
+    ∷ WrongLength ∷ Fits ∷ Fits ∷ WrongLength
+    ∷ Unknown ∷ Unknown
+    ∷ []
 unfolding verdict verdictOf find directory
 edges = refl

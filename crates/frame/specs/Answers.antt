@@ -12,7 +12,7 @@ use Rattle.frame.specs.declared.Outcome.{Outcome as Given}
 use Rattle.frame.specs.declared.Outcome.the-variants as given
 use Rattle.frame.specs.declared.Answer.{Answer}
 use Rattle.frame.specs.declared.Told.{Told}
-use Rattle.frame.specs.Frame.{Outcome, frame, refused, refusal, maxData}
+use Rattle.frame.specs.Frame.{Outcome, frame, refused, refusal, maxData, head, around}
 use Rattle.frame.specs.Reading.{Scan, State, taken}
 
 -- what a judgement of the bytes h tells: a frame's data are a part of h
@@ -20,19 +20,19 @@ abbrev pub judgedAs : List ℕ → Judged → Outcome
 judgedAs h (judged.Frame c s n) = frame c (take n (drop s h))
 judgedAs h (judged.Refused r) = refused (refusal r)
 
--- it begins behind the frame's first four bytes and ends before its last
+-- they begin behind the frame's head and end before its check byte
 abbrev pub JudgedWithin : List ℕ → Judged → Type 0
-JudgedWithin h (judged.Frame c s n) = (s ≡ 4) × (n + 5 ≡ length h) × (n ≤ maxData)
+JudgedWithin h (judged.Frame c s n) = (s ≡ head) × (n + around ≡ length h) × (n ≤ maxData)
 JudgedWithin h (judged.Refused r) = Unit {0}
 
 pub record Judges (x : Outcome) (h : List ℕ) (r : Judged) : Type 0 where
   pub told : judgedAs h r ≡ x
   pub within : JudgedWithin h r
 
--- the outcome that an answer tells; a frame's data stand in the record's array behind the frame's first four bytes
+-- the outcome that an answer tells; a frame's data stand in the record's array behind the frame's head
 abbrev pub told : Given → List ℕ → Option Outcome
 told given.Nothing bs = none
-told (given.Frame c n) bs = some (frame c (take n (drop 4 bs)))
+told (given.Frame c n) bs = some (frame c (take n (drop head bs)))
 told (given.Refused r) bs = some (refused (refusal r))
 
 abbrev pub seen : Answer → Scan State Outcome

@@ -33,6 +33,13 @@ pub data Outcome : Type 0 where
 abbrev pub maxData : ℕ
 maxData = 250
 
+-- four bytes stand before the data, five around them
+abbrev pub head : ℕ
+head = 4
+
+abbrev pub around : ℕ
+around = 5
+
 -- protocol byte 0, length L, command high byte first, data. L counts command, data and check byte
 unfoldable pub body : ℕ → List ℕ → List ℕ
 body c d = 0 ∷ (length d + 3) ∷ c / 256 ∷ c % 256 ∷ d
@@ -67,7 +74,7 @@ abbrev pub commandOf : List ℕ → ℕ
 commandOf h = getD h 2 0 * 256 + getD h 3 0
 
 abbrev pub dataOf : List ℕ → List ℕ
-dataOf h = take (length h - 5) (drop 4 h)
+dataOf h = take (length h - around) (drop head h)
 
 -- a check is passed, or the packet is refused
 abbrev pub pass : Bool → Refusal → Outcome → Outcome
@@ -77,7 +84,7 @@ pass t n o = cond t o (refused n)
 unfoldable pub judge : List ℕ → Outcome
 judge h =
     pass (leb (length h) limit) (tooLong h)
-    (pass (leb 5 (length h)) (tooShort h)
+    (pass (leb around (length h)) (tooShort h)
     (pass (eqb (getD h 0 0) 0) (wrongProtocol h)
     (pass (eqb (getD h 1 0 + 2) (length h)) (wrongLength h)
     (pass (eqb (getD h (length h - 1) 0) (xorAll (take (length h - 1) h))) (wrongCheck h)

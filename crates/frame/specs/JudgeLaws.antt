@@ -14,12 +14,12 @@ use Rattle.line.specs.Reader.{limit}
 use Rattle.line.specs.Pieces.{Bytes}
 use Rattle.frame.specs.Xor.{xorAll}
 use Rattle.frame.specs.XorLaws.{⊕-self, ⊕-cancel, xorAll-snoc}
-use Rattle.frame.specs.Frame.{Refusal, Outcome, frame, refused, maxData, body, framed, tooLong, tooShort, wrongProtocol, wrongLength, wrongCheck, commandOf, dataOf, pass, judge}
+use Rattle.frame.specs.Frame.{Refusal, Outcome, frame, refused, maxData, around, body, framed, tooLong, tooShort, wrongProtocol, wrongLength, wrongCheck, commandOf, dataOf, pass, judge}
 
 -- what the checks ask of a packet
 pub record Accepted (h : List ℕ) : Type 0 where
   pub at-most : length h ≤ limit
-  pub at-least : 5 ≤ length h
+  pub at-least : around ≤ length h
   pub protocol : getD h 0 0 ≡ 0
   pub count : getD h 1 0 + 2 ≡ length h
   pub check : xorAll h ≡ 0
@@ -53,11 +53,11 @@ unfolding judge
 passes {h} e =
     let m : ℕ = length h - 1 in
     let a = passed (leb (length h) limit) (tooLong h) e in
-    let b = passed (leb 5 (length h)) (tooShort h) (a .1) in
+    let b = passed (leb around (length h)) (tooShort h) (a .1) in
     let p = passed (eqb (getD h 0 0) 0) (wrongProtocol h) (b .1) in
     let q = passed (eqb (getD h 1 0 + 2) (length h)) (wrongLength h) (p .1) in
     let r = passed (eqb (getD h m 0) (xorAll (take m h))) (wrongCheck h) (q .1) in
-    let n : 5 ≤ length h = leb-true 5 (length h) (b .0) in (
+    let n : around ≤ length h = leb-true around (length h) (b .0) in (
       record {
         at-most = leb-true (length h) limit (a .0);
         at-least = n;
@@ -83,7 +83,7 @@ accepted-judge h a =
     let m : ℕ = length h - 1 in
     let e : getD h m 0 ≡ xorAll (take m h) = zero-check (take m h) (getD h m 0) (ap xorAll (sym (snoc h m (omega arith))) ∙ a .check) in
     let s = le-leb (length h) limit (a .at-most) in
-    let t = le-leb 5 (length h) (a .at-least) in
+    let t = le-leb around (length h) (a .at-least) in
     let p = eq-eqb (getD h 0 0) 0 (a .protocol) in
     let q = eq-eqb (getD h 1 0 + 2) (length h) (a .count) in
     let r = eq-eqb (getD h m 0) (xorAll (take m h)) e in
@@ -110,7 +110,7 @@ judge-numbered : (h : List ℕ) → Numbered (judge h)
 unfolding judge tooLong tooShort wrongProtocol wrongLength wrongCheck
 judge-numbered h =
     pass-numbered (leb (length h) limit) _ _ (omega arith)
-    (pass-numbered (leb 5 (length h)) _ _ (omega arith)
+    (pass-numbered (leb around (length h)) _ _ (omega arith)
     (pass-numbered (eqb (getD h 0 0) 0) _ _ (omega arith)
     (pass-numbered (eqb (getD h 1 0 + 2) (length h)) _ _ (omega arith)
     (pass-numbered (eqb (getD h (length h - 1) 0) (xorAll (take (length h - 1) h))) _ _ (omega arith) tt))))
@@ -122,7 +122,7 @@ refused-number h n e = rw e at (judge-numbered h)
 -- ---- what a sender makes
 
 -- a frame has five bytes around its data
-pub framed-length : (c : ℕ) (d : List ℕ) → length (framed c d) ≡ length d + 5
+pub framed-length : (c : ℕ) (d : List ℕ) → length (framed c d) ≡ length d + around
 unfolding framed body
 framed-length c d = omega (arith, length-append d (xorAll (body c d) ∷ []))
 
@@ -130,7 +130,7 @@ framed-length c d = omega (arith, length-append d (xorAll (body c d) ∷ []))
 pub framed-accepted : (c : ℕ) (d : List ℕ) → length d ≤ maxData → judge (framed c d) ≡ frame c d
 unfolding framed body
 framed-accepted c d h =
-    let n : length (framed c d) ≡ length d + 5 = framed-length c d in
+    let n : length (framed c d) ≡ length d + around = framed-length c d in
     let a : Accepted (framed c d) = record {
       at-most = omega arith;
       at-least = omega arith;
@@ -139,7 +139,7 @@ framed-accepted c d h =
       check = check-zero (body c d) (xorAll (body c d)) refl;
     } in
     accepted-judge (framed c d) a
-    ∙ ap₂ frame (div-add-mod' c 256) (take-at d (xorAll (body c d) ∷ []) (length (framed c d) - 5) (omega arith))
+    ∙ ap₂ frame (div-add-mod' c 256) (take-at d (xorAll (body c d) ∷ []) (length (framed c d) - around) (omega arith))
 
 -- ---- only one frame has a given command and data
 
@@ -148,7 +148,7 @@ data Parts : List ℕ → Type 0 where
   parts : (a l x y : ℕ) (d : List ℕ) (v : ℕ) → Parts (a ∷ l ∷ x ∷ y ∷ (d ++ v ∷ []))
 
 -- five bytes or more have them
-parts-of : (h : List ℕ) → 5 ≤ length h → Parts h
+parts-of : (h : List ℕ) → around ≤ length h → Parts h
 parts-of [] n = absurd (omega arith)
 parts-of (a ∷ []) n = absurd (omega arith)
 parts-of (a ∷ l ∷ []) n = absurd (omega arith)
@@ -162,7 +162,7 @@ unfolding framed body
 framed-parts (parts a l x y d v) g b =
     let h : List ℕ = a ∷ l ∷ x ∷ y ∷ (d ++ v ∷ []) in
     let n : length (d ++ v ∷ []) ≡ length d + 1 = length-append d (v ∷ []) in
-    let t : dataOf h ≡ d = take-at d (v ∷ []) (length h - 5) (omega arith) in
+    let t : dataOf h ≡ d = take-at d (v ∷ []) (length h - around) (omega arith) in
     let p : 0 ≡ a = sym (g .protocol) in
     let q : length d + 3 ≡ l = omega (arith, g .count) in
     let hi : commandOf h / 256 ≡ x = digits-div x b in

@@ -6,6 +6,7 @@ pub mod Answers
 pub mod Writing
 pub mod Code
 pub mod Damage
+pub mod FrameVectors
 pub mod XorLaws
 pub mod JudgeLaws
 pub mod WireLaws

@@ -17,7 +17,7 @@ use Rattle.line.specs.ReaderLaws as line-laws
 use Rattle.line.specs.Pieces.{closed, last, decode, pieceOutcomes, written, NoEnd}
 use Rattle.line.specs.ByPieces as line-pieces
 use Rattle.line.specs.HeldLaws as line-held
-use Rattle.frame.specs.Frame.{Refusal, Outcome, frame, refused, maxData, judge}
+use Rattle.frame.specs.Frame.{Refusal, Outcome, frame, refused, maxData, around, judge}
 use Rattle.frame.specs.JudgeLaws.{judge-accepted, refused-number, accepted-data}
 use Rattle.frame.specs.Reading.{END, escape, also, onward, outcomes, final, scan, State, plain, escaped, skipping, emptied, held, inner, inside, taken, Scan, judged, verdict, step, read}
 pub use Rattle.line.specs.ScanLaws.{also-append, outcomes-append, final-append, Tells, scan-tells, used-within, used-some, used-all}
@@ -136,7 +136,7 @@ accepted-closes f {c} {d} e =
     let a = judge-accepted {h = f} e in
     ap (λ (s : State). verdict (line.close s)) (line-laws.inside-escaped [] f (omega arith)) ∙ go f (a .at-least) e
   where
-    go : (f : List ℕ) → 5 ≤ length f → judge f ≡ frame c d → verdict (line.close (plain f)) ≡ some (frame c d)
+    go : (f : List ℕ) → around ≤ length f → judge f ≡ frame c d → verdict (line.close (plain f)) ≡ some (frame c d)
     go [] n e = absurd (omega arith)
     go (b ∷ f) n e = ap some e
 

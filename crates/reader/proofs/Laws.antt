@@ -19,7 +19,7 @@ use Rattle.line.specs.declared.Told as line-told
 use Rattle.line.specs.Reader as line
 use Rattle.line.specs.Answers as line-answers
 use Rattle.frame.specs.Frame as Frame
-use Rattle.frame.specs.Frame.{refusal, frame, refused, judge}
+use Rattle.frame.specs.Frame.{refusal, frame, refused, head, around, judge}
 use Rattle.frame.specs.Reading.{State, takenAs, verdict, read}
 use Rattle.frame.specs.Answers.{Judges, told, answerOf, Answers}
 use Rattle.frame.specs.ReadingLaws.{judgedCall, read-judged}
@@ -36,10 +36,10 @@ drop-take (suc i) k [] = rw (take-nil k, take-nil (suc i + k))
 drop-take (suc i) k (x ∷ l) = rw suc-add (drop-take i k l)
 
 -- data seen in a packet are seen in the array that it lies at the front of
-front-part : (bs : List ℕ) (n k : ℕ) → k + 5 ≡ n → take k (drop 4 (take n bs)) ≡ take k (drop 4 bs)
+front-part : (bs : List ℕ) (n k : ℕ) → k + around ≡ n → take k (drop head (take n bs)) ≡ take k (drop head bs)
 front-part bs n k e =
-    let m : n ≡ 4 + suc k = omega arith in
-    ap (λ (x : ℕ). take k (drop 4 (take x bs))) m ∙ ap (take k) (drop-take 4 (suc k) bs) ∙ take-take k (suc k) (drop 4 bs) (omega arith)
+    let m : n ≡ head + suc k = omega arith in
+    ap (λ (x : ℕ). take k (drop head (take x bs))) m ∙ ap (take k) (drop-take head (suc k) bs) ∙ take-take k (suc k) (drop head bs) (omega arith)
 
 -- a packet of n bytes at the front of bs was judged as j
 pub judging : (bs : List ℕ) (n : ℕ) (g : Got) (j : Judged) (r : Outcome) → g ≡ got.Packet n → r ≡ outcomeOf j

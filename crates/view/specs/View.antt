@@ -4,7 +4,7 @@ use mathlib.Core.Path.{_≡_}
 use mathlib.Core.List.{List, []}
 use lib.ListN.{length, take, drop}
 use denote.Ref.{RefT}
-use Rattle.frame.specs.Frame.{Outcome, frame, refused}
+use Rattle.frame.specs.Frame.{Outcome, frame, refused, head}
 use Rattle.view.specs.declared.View.{View}
 
 -- a frame's command number and data; of a refused packet 0 and none
@@ -16,9 +16,9 @@ abbrev pub dataOf : Outcome → List ℕ
 dataOf (frame c d) = d
 dataOf (refused n) = []
 
--- where the data begin: behind a frame's first four bytes; of a refused packet, at its start
+-- where the data begin: behind a frame's head; of a refused packet, at its start
 abbrev pub startOf : Outcome → ℕ
-startOf (frame c d) = 4
+startOf (frame c d) = head
 startOf (refused n) = 0
 
 -- the reference r is the n bytes of the lent slice x from s on, where they lie: no copy of them

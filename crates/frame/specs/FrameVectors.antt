@@ -1,0 +1,80 @@
+-- The frame layer's rules on bytes: the packets of document 01's P3 to P6 and P8 to P11 judged, and frames written at the edges of room and data.
+use Prim.Native.Nat.{ℕ, _+_}
+use mathlib.Core.Path.{_≡_, refl}
+use mathlib.Core.List.{List, [], _∷_, _++_, map}
+use lib.ListN.{length, replicate}
+use Rattle.frame.specs.declared.Written.the-variants.{Length, ShortRoom, LongData}
+use Rattle.frame.specs.declared.WrittenAt.the-variants as at
+use Rattle.frame.specs.Xor.{_⊕_, xorAll}
+use Rattle.frame.specs.Frame.{escape, frame, refused, body, framed, wire, tooShort, wrongProtocol, wrongLength, wrongCheck, judge}
+use Rattle.frame.specs.Writing.{write, writeAt}
+
+-- P3 to P6, accepted
+accepted :
+    map judge
+    ((0x00 ∷ 0x03 ∷ 0x00 ∷ 0x01 ∷ 0x02 ∷ [])
+    ∷ (0x00 ∷ 0x05 ∷ 0x02 ∷ 0x06 ∷ 0xC0 ∷ 0x00 ∷ 0xC1 ∷ [])
+    ∷ (0x00 ∷ 0x05 ∷ 0x02 ∷ 0x06 ∷ 0xC1 ∷ 0x00 ∷ 0xC0 ∷ [])
+    ∷ (0x00 ∷ 0x05 ∷ 0x02 ∷ 0x06 ∷ 0xDB ∷ 0x00 ∷ 0xDA ∷ [])
+    ∷ [])
+    ≡ frame 0x0001 [] ∷ frame 0x0206 (0xC0 ∷ 0x00 ∷ []) ∷ frame 0x0206 (0xC1 ∷ 0x00 ∷ []) ∷ frame 0x0206 (0xDB ∷ 0x00 ∷ []) ∷ []
+unfolding judge xorAll _⊕_
+accepted = refl
+
+-- P8 to P11, refused; where two checks fail, the first one tells
+refusals :
+    map judge
+    ((0x00 ∷ 0x03 ∷ 0x00 ∷ 0x03 ∷ [])
+    ∷ (0x01 ∷ 0x03 ∷ 0x00 ∷ 0x01 ∷ 0x03 ∷ [])
+    ∷ (0x00 ∷ 0x04 ∷ 0x00 ∷ 0x01 ∷ 0x05 ∷ [])
+    ∷ (0x00 ∷ 0x03 ∷ 0x00 ∷ 0x01 ∷ 0x03 ∷ [])
+    ∷ (0x01 ∷ 0x04 ∷ 0x00 ∷ 0x01 ∷ 0x05 ∷ [])
+    ∷ [])
+    ≡ refused 3 ∷ refused 4 ∷ refused 5 ∷ refused 6 ∷ refused 4 ∷ []
+unfolding judge xorAll _⊕_ tooShort wrongProtocol wrongLength wrongCheck
+refusals = refl
+
+-- the wire forms of P3 to P6; a length byte C0 is escaped too, so that of 189 zeros takes 8 bytes more
+p3 : List ℕ
+p3 = 0xC0 ∷ 0x00 ∷ 0x03 ∷ 0x00 ∷ 0x01 ∷ 0x02 ∷ 0xC0 ∷ []
+
+wires :
+    wire 0x0001 [] ∷ map (wire 0x0206) ((0xC0 ∷ 0x00 ∷ []) ∷ (0xC1 ∷ 0x00 ∷ []) ∷ (0xDB ∷ 0x00 ∷ []) ∷ [])
+    ≡ p3
+    ∷ (0xC0 ∷ 0x00 ∷ 0x05 ∷ 0x02 ∷ 0x06 ∷ 0xDB ∷ 0xDC ∷ 0x00 ∷ 0xC1 ∷ 0xC0 ∷ [])
+    ∷ (0xC0 ∷ 0x00 ∷ 0x05 ∷ 0x02 ∷ 0x06 ∷ 0xC1 ∷ 0x00 ∷ 0xDB ∷ 0xDC ∷ 0xC0 ∷ [])
+    ∷ (0xC0 ∷ 0x00 ∷ 0x05 ∷ 0x02 ∷ 0x06 ∷ 0xDB ∷ 0xDD ∷ 0x00 ∷ 0xDA ∷ 0xC0 ∷ [])
+    ∷ []
+unfolding p3 wire framed body escape xorAll _⊕_
+wires = refl
+
+length-escaped : length (wire 0x0001 (replicate 189 0)) ≡ 189 + 8
+unfolding wire framed body escape xorAll _⊕_
+length-escaped = refl
+
+-- P3 written: room of 512 bytes is taken, one of 511 is not, and the bytes behind the wire form stay
+room-512 : write (replicate 512 7) 0x0001 [] ≡ record { answer = Length 7; room = p3 ++ replicate 505 7 }
+unfolding p3 write wire framed body escape xorAll _⊕_
+room-512 = refl
+
+room-511 : write (replicate 511 7) 0x0001 [] ≡ record { answer = ShortRoom; room = replicate 511 7 }
+unfolding write
+room-511 = refl
+
+-- 250 data bytes are written, 251 are not
+data-250 : write (replicate 512 7) 0x0001 (replicate 250 0) .answer ≡ Length 257
+unfolding write wire framed body escape xorAll _⊕_
+data-250 = refl
+
+data-251 : write (replicate 512 7) 0x0001 (replicate 251 0) ≡ record { answer = LongData; room = replicate 512 7 }
+unfolding write
+data-251 = refl
+
+-- P3 written from the place 1 on: it fits where 7 bytes are left, and no fewer
+fits : writeAt (replicate 8 7) 1 0x0001 [] ≡ record { answer = at.UpTo 8; room = 7 ∷ p3 }
+unfolding p3 writeAt wire framed body escape xorAll _⊕_
+fits = refl
+
+no-fit : writeAt (replicate 7 7) 1 0x0001 [] ≡ record { answer = at.NoFit; room = replicate 7 7 }
+unfolding writeAt wire framed body escape xorAll _⊕_
+no-fit = refl
