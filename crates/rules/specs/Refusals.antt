@@ -1,7 +1,7 @@
 -- Demand 1, over the definitions: a refused call changes nothing; a refused packet brings one error reply only.
 use Prim.Native.Nat.{ℕ, _≤_, _<_}
 use mathlib.Core.Path.{_≡_, refl, sym, ap, _∙_}
-use mathlib.Core.List.{List, [], _++_}
+use mathlib.Core.List.{List, [], _∷_, _++_}
 use mathlib.Core.Option.{Option, none, some}
 use mathlib.Core.Bool.{Bool, true, false}
 use native.Mathlib.Omega.{arith}
@@ -9,13 +9,15 @@ use Rattle.frame.specs.Frame.{refused}
 use Rattle.line.specs.declared.Reading.{Reading}
 use Rattle.frame.specs.Reading.{State, taken}
 use lib.Dec.{ltb}
-use lib.ListN.{length, drop}
+use lib.ListN.{length, drop, replicate}
 use borrow.Author.Tests.{eq-eqb, ne-eqb, lt-ltb, le-ltb}
 use Rattle.frame.specs.Writing.{minRoom}
-use Rattle.nodes.specs.Table.{tableSize}
+use Rattle.nodes.specs.Table.{tableSize, nodeCount, inUse, enrolled}
+use Rattle.nodes.specs.TableLaws.{used-below}
 use Rattle.sessions.specs.Sessions as sessions
+use Rattle.sessions.specs.Sessions.{slotCount, closedSlot}
 use Rattle.rules.specs.declared.Hub.{Hub}
-use Rattle.rules.specs.Hub.{errorReply, frameError, serve, startRefusal, startBy, start, enrolRefusal, enrolBy, enrol, closeRefusal, closeBy, Closed, close, Finish, refusedFinish, Finished, finishBy, finish, lineCount, feedRefusal}
+use Rattle.rules.specs.Hub.{errorReply, frameError, serve, startRefusal, startBy, start, enrolRefusal, enrolBy, enrol, closeRefusal, closeBy, Closed, close, Finish, refusedFinish, Finished, finishBy, finish, lineCount, passwordSize, feedRefusal}
 use Rattle.rules.specs.Promises.{ClosedLine, Closes, FinishedSession, Finishes}
 
 -- start gives back the hub and the table that it was lent
@@ -65,15 +67,41 @@ pub serve-refused : (h : Hub) (t : List ℕ) (l n : ℕ) → serve h t l (refuse
 unfolding serve
 serve-refused h t l n = refl
 
--- a feed is refused, in this order, for a table that is not 14,400 bytes long (7), a line above 3 (8), room below 512 (9)
-pub refused-table : (t : List ℕ) (l room : ℕ) → (length t ≡ 14400 → ⊥) → feedRefusal t l room ≡ some 7
+-- ---- when a call is refused, in the order of the numbers
+
+-- start: a table of another length (7), a password that has not 32 bytes (14); otherwise it zeroes the table, nobody is logged in, and there is no session
+pub start-table : (h : Hub) (t p : List ℕ) → (length t ≡ tableSize → ⊥) → start h t p .refusal ≡ some 7
+start-table h t p e = rw (ne-eqb (length t) tableSize e)
+
+pub start-password : (h : Hub) (t p : List ℕ) → length t ≡ tableSize → (length p ≡ 32 → ⊥) → start h t p .refusal ≡ some 14
+start-password h t p e k = rw (eq-eqb (length t) tableSize e, ne-eqb (length p) passwordSize k)
+
+pub start-done : (h : Hub) (t p : List ℕ) → length t ≡ tableSize → length p ≡ 32
+    → start h t p ≡ record { refusal = none; hub = record { password = p; logins = false ∷ false ∷ false ∷ false ∷ []; slots = replicate slotCount closedSlot }; table = replicate tableSize 0 }
+start-done h t p e k = rw (eq-eqb (length t) tableSize e, eq-eqb (length p) passwordSize k) (rw e)
+
+-- enrol: a table of another length (7), a node above 199 (11), one that is in use (12)
+pub enrol-table : (t : List ℕ) (n type : ℕ) → (length t ≡ tableSize → ⊥) → enrol t n type .refusal ≡ some 7
+enrol-table t n type e = rw (ne-eqb (length t) tableSize e)
+
+pub enrol-node : (t : List ℕ) (n type : ℕ) → length t ≡ tableSize → nodeCount ≤ n → enrol t n type .refusal ≡ some 11
+enrol-node t n type e h = rw (eq-eqb (length t) tableSize e, le-ltb n nodeCount h)
+
+pub enrol-used : (t : List ℕ) (n type : ℕ) → length t ≡ tableSize → inUse t n ≡ true → enrol t n type .refusal ≡ some 12
+enrol-used t n type e u = rw (eq-eqb (length t) tableSize e, lt-ltb n nodeCount (used-below t n u), u)
+
+pub enrol-done : (t : List ℕ) (n type : ℕ) → length t ≡ tableSize → n < nodeCount → inUse t n ≡ false → enrol t n type ≡ record { refusal = none; table = enrolled t n type }
+enrol-done t n type e h u = rw (eq-eqb (length t) tableSize e, lt-ltb n nodeCount h, u)
+
+-- feed: a table of another length (7), a line above 3 (8), room below 512 (9)
+pub refused-table : (t : List ℕ) (l room : ℕ) → (length t ≡ tableSize → ⊥) → feedRefusal t l room ≡ some 7
 refused-table t l room e = rw (ne-eqb (length t) tableSize e)
 
-pub refused-line : (t : List ℕ) (l room : ℕ) → length t ≡ 14400 → 3 < l → feedRefusal t l room ≡ some 8
+pub refused-line : (t : List ℕ) (l room : ℕ) → length t ≡ tableSize → 3 < l → feedRefusal t l room ≡ some 8
 refused-line t l room e h = rw (eq-eqb (length t) tableSize e, le-ltb l lineCount (omega arith))
 
-pub refused-room : (t : List ℕ) (l room : ℕ) → length t ≡ 14400 → l ≤ 3 → room < 512 → feedRefusal t l room ≡ some 9
+pub refused-room : (t : List ℕ) (l room : ℕ) → length t ≡ tableSize → l ≤ 3 → room < 512 → feedRefusal t l room ≡ some 9
 refused-room t l room e h k = rw (eq-eqb (length t) tableSize e, lt-ltb l lineCount (omega arith), lt-ltb room minRoom k)
 
-pub not-refused : (t : List ℕ) (l room : ℕ) → length t ≡ 14400 → l ≤ 3 → 512 ≤ room → feedRefusal t l room ≡ none
+pub not-refused : (t : List ℕ) (l room : ℕ) → length t ≡ tableSize → l ≤ 3 → 512 ≤ room → feedRefusal t l room ≡ none
 not-refused t l room e h k = rw (eq-eqb (length t) tableSize e, lt-ltb l lineCount (omega arith), le-ltb room minRoom k)

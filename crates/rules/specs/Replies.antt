@@ -1,134 +1,160 @@
--- Document 01's replies and limits that are not marked P, the order of judging an outcome, and what each command leaves, computed.
-use Prim.Native.Nat.{ℕ, _-_}
+-- Document 01's replies and limits that are not marked P, the order of judging an outcome, and what each request, close and finish leaves, computed.
+use Prim.Native.Nat.{ℕ, _+_, _-_, _*_}
 use mathlib.Core.Path.{_≡_, refl}
 use mathlib.Core.List.{List, [], _∷_, _++_, map}
-use mathlib.Core.Bool.{true, false}
+use mathlib.Core.Bool.{Bool, true, false}
 use mathlib.Core.Option.{none, some}
 use lib.ListN.{length, replicate}
-use Rattle.frame.specs.Frame.{frame, refused, wire, escape, framed, body}
+use Rattle.frame.specs.Frame.{Outcome, frame, refused, wire, escape, framed, body}
 use Rattle.frame.specs.Reading.{plain, emptied}
 use Rattle.frame.specs.Xor as xor
 use Rattle.directory.specs.Directory.{directory}
 use Rattle.directory.specs.Lookup as lookup
 use Rattle.nodes.specs.Table as table
+use Rattle.nodes.specs.Table.{recordSize}
 use Rattle.sessions.specs.Search as search
 use Rattle.sessions.specs.Sessions as sessions
+use Rattle.sessions.specs.Sessions.{closedSlot}
+use Rattle.sessions.specs.declared.Slot.{Slot}
 use Rattle.rules.specs.declared.Hub.{Hub}
 use Rattle.rules.specs.Hub as rules
-use Rattle.rules.specs.Hub.{firstHub, serve, request, enter, same, finish}
+use Rattle.rules.specs.Hub.{Reply, firstHub, serve, request, enter, same, close, finish}
 
--- every node is in use: each byte of the table is 1
-unfoldable windows : List ℕ
-windows = replicate table.tableSize 1
+-- ---- hubs and tables
 
--- line 2 gives the password
-unfoldable loggedIn : Hub
-loggedIn = serve firstHub windows 2 (frame 0x3000 (replicate 32 0)) .hub
+-- line 2 is logged in, with these sessions
+abbrev hubWith : List Slot → Hub
+hubWith ss = record { password = replicate 32 0; logins = false ∷ false ∷ true ∷ false ∷ []; slots = ss }
 
--- a mode send of session 0102 with these indices and this count
-unfoldable modeSendOf : ℕ → List ℕ → List ℕ
-modeSendOf count ns = (0x01 ∷ 0x02 ∷ 1 ∷ 3 ∷ 0 ∷ 0 ∷ count ∷ []) ++ ns ++ replicate (20 - length ns) 0 ++ (0 ∷ 0 ∷ 0 ∷ 0 ∷ [])
+abbrev loggedIn : Hub
+loggedIn = hubWith (replicate 8 closedSlot)
 
--- what line 2 is answered
-abbrev replyTo : ℕ → List ℕ → List ℕ
-replyTo count ns = serve loggedIn windows 2 (frame 0x0320 (modeSendOf count ns)) .reply
+-- session 0102 of line 2 with these nodes
+abbrev session : List Bool → Slot
+session nodes = record { used = true; number = 0x0102; line = 2; nodes = nodes }
 
-right-password : serve firstHub windows 2 (frame 0x3000 (replicate 32 0)) .reply ≡ 0xC0 ∷ 0x00 ∷ 0x04 ∷ 0x30 ∷ 0x01 ∷ 0x00 ∷ 0x35 ∷ 0xC0 ∷ []
-unfolding serve request enter same lookup.verdict lookup.verdictOf lookup.find directory wire escape framed body xor.xorAll xor._⊕_
-right-password = refl
+abbrev hubHolding : List Bool → Hub
+hubHolding nodes = hubWith (session nodes ∷ replicate 7 closedSlot)
 
-mode-sent : replyTo 1 (199 ∷ []) ≡ 0xC0 ∷ 0x00 ∷ 0x06 ∷ 0x03 ∷ 0x21 ∷ 0x01 ∷ 0x02 ∷ 0x00 ∷ 0x27 ∷ 0xC0 ∷ []
-unfolding windows loggedIn modeSendOf serve request enter same rules.modeSend sessions.modeSend sessions.isLegal sessions.targetsLegal sessions.marked search.any search.first search.below table.inUse lookup.verdict lookup.verdictOf lookup.find directory wire escape framed body xor.xorAll xor._⊕_
-mode-sent = refl
+-- node 3 alone
+abbrev moving : Hub
+moving = hubHolding (replicate 3 false ++ true ∷ replicate 196 false)
 
-mode-finished : finish (serve loggedIn windows 2 (frame 0x0320 (modeSendOf 1 (3 ∷ []))) .hub) 0x0102 512 .reply
-    ≡ 0xC0 ∷ 0x00 ∷ 0x05 ∷ 0x03 ∷ 0x04 ∷ 0x01 ∷ 0x02 ∷ 0x01 ∷ 0xC0 ∷ []
-unfolding windows loggedIn modeSendOf serve request enter same rules.modeSend sessions.modeSend sessions.isLegal sessions.targetsLegal sessions.marked sessions.finish search.any search.first search.below table.inUse lookup.verdict lookup.verdictOf lookup.find directory wire escape framed body xor.xorAll xor._⊕_ rules.notice
-mode-finished = refl
+-- the nodes below n are in use: each byte of their records is 1
+abbrev windows : ℕ → List ℕ
+windows n = replicate (n * recordSize) 1
 
--- node 199 is accepted and node 200 is not; count 1 and 20 are, 0 and 21 are not
-limits : replyTo 0 (199 ∷ []) ∷ replyTo 1 (200 ∷ []) ∷ replyTo 20 (search.below 20) ∷ replyTo 21 (search.below 20) ∷ []
-    ≡ map (λ (s : ℕ). wire 0x0321 (0x01 ∷ 0x02 ∷ s ∷ [])) (5 ∷ 5 ∷ 0 ∷ 5 ∷ [])
-unfolding windows loggedIn modeSendOf serve request enter same rules.modeSend sessions.modeSend sessions.isLegal sessions.targetsLegal sessions.marked search.any search.first search.below table.inUse lookup.verdict lookup.verdictOf lookup.find directory wire escape framed body xor.xorAll xor._⊕_
-limits = refl
+-- ---- outcomes on line 2
+
+-- A hub and a table, an outcome, and what serving it leaves and writes.
+record Row : Type 0 where
+  hub : Hub
+  table : List ℕ
+  outcome : Outcome
+  served : Reply
+
+abbrev tried : Row → Row
+tried r = record { hub = r .hub; table = r .table; outcome = r .outcome; served = rules.hub .serve (r .hub) (r .table) 2 (r .outcome) }
+
+abbrev row : Hub → List ℕ → Outcome → Hub → List ℕ → List ℕ → Row
+row h t o h′ t′ reply = record { hub = h; table = t; outcome = o; served = record { hub = h′; table = t′; reply = reply } }
+
+-- a row in which the table stays, of n nodes; and one in which nothing changes
+abbrev leaves : Hub → ℕ → Outcome → Hub → List ℕ → Row
+leaves h n o h′ reply = row h (windows n) o h′ (windows n) reply
+
+abbrev answers : Hub → Outcome → List ℕ → Row
+answers h o reply = leaves h 4 o h reply
+
+-- the right password, and a wrong one
+abbrev passwords : List Row
+passwords =
+    leaves firstHub 4 (frame 0x3000 (replicate 32 0)) loggedIn (0xC0 ∷ 0x00 ∷ 0x04 ∷ 0x30 ∷ 0x01 ∷ 0x00 ∷ 0x35 ∷ 0xC0 ∷ [])
+    ∷ answers loggedIn (frame 0x3000 (replicate 32 1)) (wire 0x3001 (1 ∷ []))
+    ∷ []
 
 -- the order of judging: a refused packet, an unknown command, a wrong length, no login, a command that is not served
-errors : serve firstHub windows 2 (refused 6) .reply ∷ serve firstHub windows 2 (frame 0x020A []) .reply ∷ serve firstHub windows 2 (frame 0x0200 []) .reply
-    ∷ serve firstHub windows 2 (frame 0x0200 (5 ∷ [])) .reply ∷ serve loggedIn windows 2 (frame 0x0008 []) .reply ∷ []
-    ≡ map (λ (e : ℕ). wire 0x0000 (e ∷ [])) (2 ∷ 1 ∷ 2 ∷ 12 ∷ 1 ∷ [])
-unfolding windows loggedIn serve request enter same lookup.verdict lookup.verdictOf lookup.find directory wire escape framed body xor.xorAll xor._⊕_
-errors = refl
+abbrev error : ℕ → List ℕ
+error e = wire 0x0000 (e ∷ [])
 
--- a wrong password leaves every login; feed serves a line as itself
-wrong-password : serve loggedIn windows 2 (frame 0x3000 (replicate 32 1)) .hub ≡ loggedIn
-unfolding windows loggedIn serve request enter same lookup.verdict lookup.verdictOf lookup.find directory
-wrong-password = refl
+abbrev errors : List Row
+errors =
+    answers firstHub (refused 6) (error 2)
+    ∷ answers firstHub (frame 0x020A []) (error 1)
+    ∷ answers firstHub (frame 0x0200 []) (error 2)
+    ∷ answers firstHub (frame 0x0200 (3 ∷ [])) (error 12)
+    ∷ answers loggedIn (frame 0x0008 []) (error 1)
+    ∷ []
 
-fed-on-its-line : rules.hub .serve firstHub windows 1 (frame 0x3000 (replicate 32 0)) .hub .logins ≡ false ∷ true ∷ false ∷ false ∷ []
-unfolding windows serve request enter same lookup.verdict lookup.verdictOf lookup.find directory
-fed-on-its-line = refl
+-- the last 32 bytes become the password, or nothing changes
+abbrev changes : List Row
+changes =
+    leaves loggedIn 4 (frame 0x3002 (replicate 32 0 ++ replicate 32 8)) (record { password = replicate 32 8; logins = loggedIn .logins; slots = loggedIn .slots }) (wire 0x3003 (0 ∷ []))
+    ∷ answers loggedIn (frame 0x3002 (replicate 32 8 ++ replicate 32 0)) (wire 0x3003 (1 ∷ []))
+    ∷ []
 
--- password change: the last 32 bytes become the password, or nothing changes
-changed : serve loggedIn windows 2 (frame 0x3002 (replicate 32 0 ++ replicate 32 8)) .hub .password ∷ serve loggedIn windows 2 (frame 0x3002 (replicate 32 8 ++ replicate 32 0)) .hub .password ∷ []
-    ≡ replicate 32 8 ∷ replicate 32 0 ∷ []
-unfolding windows loggedIn serve request enter rules.change same lookup.verdict lookup.verdictOf lookup.find directory
-changed = refl
+-- 0210 follows 0201 where the node is in use
+abbrev information : List Row
+information =
+    answers loggedIn (frame 0x0200 (3 ∷ [])) (wire 0x0201 (0 ∷ 3 ∷ []) ++ wire 0x0210 ((3 ∷ 1 ∷ 1 ∷ 1 ∷ []) ++ replicate 64 1 ++ (0 ∷ 1 ∷ 1 ∷ 0 ∷ 0 ∷ 1 ∷ []) ++ replicate 50 0))
+    ∷ answers loggedIn (frame 0x0200 (4 ∷ [])) (wire 0x0201 (2 ∷ 4 ∷ []))
+    ∷ []
 
-change-replies : serve loggedIn windows 2 (frame 0x3002 (replicate 32 0 ++ replicate 32 8)) .reply ∷ serve loggedIn windows 2 (frame 0x3002 (replicate 32 8 ++ replicate 32 0)) .reply ∷ []
-    ≡ wire 0x3003 (0 ∷ []) ∷ wire 0x3003 (1 ∷ []) ∷ []
-unfolding windows loggedIn serve request enter rules.change same lookup.verdict lookup.verdictOf lookup.find directory
-change-replies = refl
+-- the node set commands confirm with status 0 and node 3, and store these bytes at this place of its record
+abbrev stores : Outcome → ℕ → List ℕ → List ℕ → Row
+stores o at vs reply = row loggedIn (windows 4) o loggedIn (windows 3 ++ replicate at 1 ++ vs ++ replicate (recordSize - (at + length vs)) 1) reply
 
--- get node information: 0201, and 0210 behind it where the node is in use
-got : serve loggedIn windows 2 (frame 0x0200 (199 ∷ [])) .reply ∷ serve loggedIn windows 2 (frame 0x0200 (200 ∷ [])) .reply ∷ []
-    ≡ (wire 0x0201 (0 ∷ 199 ∷ []) ++ wire 0x0210 (table.information windows 199)) ∷ wire 0x0201 (2 ∷ 200 ∷ []) ∷ []
-unfolding windows loggedIn serve request enter same rules.getNode table.inUse lookup.verdict lookup.verdictOf lookup.find directory
-got = refl
+abbrev confirms : List Row
+confirms =
+    stores (frame 0x0206 (3 ∷ 2 ∷ [])) 70 (2 ∷ []) (0xC0 ∷ 0x00 ∷ 0x05 ∷ 0x02 ∷ 0x07 ∷ 0x00 ∷ 0x03 ∷ 0x03 ∷ 0xC0 ∷ [])
+    ∷ stores (frame 0x0208 (3 ∷ replicate 64 9)) 3 (replicate 64 9) (0xC0 ∷ 0x00 ∷ 0x05 ∷ 0x02 ∷ 0x09 ∷ 0x00 ∷ 0x03 ∷ 0x0D ∷ 0xC0 ∷ [])
+    ∷ stores (frame 0x020D (3 ∷ 0 ∷ 5 ∷ 2 ∷ [])) 67 (0 ∷ 5 ∷ 2 ∷ []) (0xC0 ∷ 0x00 ∷ 0x05 ∷ 0x02 ∷ 0x0E ∷ 0x00 ∷ 0x03 ∷ 0x0A ∷ 0xC0 ∷ [])
+    ∷ []
 
--- line 2 has a session with node 3
-unfoldable moving : Hub
-moving = serve loggedIn windows 2 (frame 0x0320 (modeSendOf 1 (3 ∷ []))) .hub
+-- a mode send of session 0102 with this count and these indices, and its confirm
+abbrev modeSend : ℕ → List ℕ → Outcome
+modeSend count ns = frame 0x0320 ((0x01 ∷ 0x02 ∷ 1 ∷ 3 ∷ 0 ∷ 0 ∷ count ∷ []) ++ ns ++ replicate (20 - length ns) 0 ++ (0 ∷ 0 ∷ 0 ∷ 0 ∷ []))
 
--- virgin state zeroes the table and closes the session; login and password stay
-virgin : serve moving windows 2 (frame 0x0108 []) ≡ record { hub = loggedIn; table = replicate table.tableSize 0; reply = wire 0x0109 [] }
-unfolding windows loggedIn modeSendOf moving serve request enter same rules.modeSend rules.virginState sessions.modeSend sessions.isLegal sessions.targetsLegal sessions.marked search.any search.first table.inUse lookup.verdict lookup.verdictOf lookup.find directory
-virgin = refl
+abbrev sent : ℕ → List ℕ
+sent status = wire 0x0321 (0x01 ∷ 0x02 ∷ status ∷ [])
 
--- the confirms of the node set commands: status 0, node 7
-confirmed : serve loggedIn windows 2 (frame 0x0206 (7 ∷ 3 ∷ [])) .reply ∷ serve loggedIn windows 2 (frame 0x0208 (7 ∷ replicate 64 9)) .reply
-    ∷ serve loggedIn windows 2 (frame 0x020D (7 ∷ 0 ∷ 1 ∷ 2 ∷ [])) .reply ∷ []
-    ≡ (192 ∷ 0 ∷ 5 ∷ 2 ∷ 7 ∷ 0 ∷ 7 ∷ 7 ∷ 192 ∷ []) ∷ (192 ∷ 0 ∷ 5 ∷ 2 ∷ 9 ∷ 0 ∷ 7 ∷ 9 ∷ 192 ∷ []) ∷ (192 ∷ 0 ∷ 5 ∷ 2 ∷ 14 ∷ 0 ∷ 7 ∷ 14 ∷ 192 ∷ []) ∷ []
-unfolding windows loggedIn serve request enter same table.setVariation table.setField table.inUse lookup.verdict lookup.verdictOf lookup.find directory wire escape framed body xor.xorAll xor._⊕_
-confirmed = refl
+-- node 199 is accepted and node 200 is not; counts 1 and 20 are, 0 and 21 are not
+abbrev modeSends : List Row
+modeSends =
+    leaves loggedIn 4 (modeSend 1 (3 ∷ [])) moving (0xC0 ∷ 0x00 ∷ 0x06 ∷ 0x03 ∷ 0x21 ∷ 0x01 ∷ 0x02 ∷ 0x00 ∷ 0x27 ∷ 0xC0 ∷ [])
+    ∷ leaves loggedIn 200 (modeSend 1 (199 ∷ [])) (hubHolding (replicate 199 false ++ true ∷ [])) (sent 0)
+    ∷ leaves loggedIn 201 (modeSend 1 (200 ∷ [])) loggedIn (sent 5)
+    ∷ leaves loggedIn 20 (modeSend 20 (search.below 20)) (hubHolding (replicate 20 true ++ replicate 180 false)) (sent 0)
+    ∷ leaves loggedIn 20 (modeSend 21 (search.below 20)) loggedIn (sent 5)
+    ∷ answers loggedIn (modeSend 0 (3 ∷ [])) (sent 5)
+    ∷ []
 
--- removing node 3 closes the session, removing node 4 does not
-removed : serve moving windows 2 (frame 0x0106 (8 ∷ replicate 25 0)) .hub ∷ serve moving windows 2 (frame 0x0106 (16 ∷ replicate 25 0)) .hub ∷ [] ≡ loggedIn ∷ moving ∷ []
-unfolding windows loggedIn modeSendOf moving serve request enter same rules.modeSend rules.removeNodes sessions.modeSend sessions.isLegal sessions.targetsLegal sessions.marked sessions.holdsRemoved search.any search.first search.below table.inUse table.bit lookup.verdict lookup.verdictOf lookup.find directory
-removed = refl
+-- removing node 3 closes its session and no other; virgin state zeroes the table and closes the session, login and password stay
+abbrev removals : List Row
+removals =
+    row (hubWith (moving .slots ++ session (true ∷ replicate 199 false) ∷ [])) (windows 4) (frame 0x0106 (8 ∷ replicate 25 0))
+    (hubWith (loggedIn .slots ++ session (true ∷ replicate 199 false) ∷ [])) (windows 3 ++ replicate recordSize 0) (wire 0x0107 (0 ∷ []))
+    ∷ row moving (windows 4) (frame 0x0108 []) loggedIn (replicate (4 * recordSize) 0) (wire 0x0109 [])
+    ∷ []
 
--- closing line 2 takes its login and closes its session; closing line 1 does neither; there is no line 4
-closed : rules.close moving emptied 2 .hub ∷ rules.close moving emptied 1 .hub ∷ rules.close moving emptied 4 .hub ∷ [] ≡ firstHub ∷ moving ∷ moving ∷ []
-unfolding windows loggedIn modeSendOf moving serve request enter same rules.modeSend sessions.modeSend sessions.isLegal sessions.targetsLegal sessions.marked search.any search.first table.inUse lookup.verdict lookup.verdictOf lookup.find directory
+abbrev rows : List Row
+rows = passwords ++ errors ++ changes ++ information ++ confirms ++ modeSends ++ removals
+
+rows-hold : map tried rows ≡ rows
+unfolding serve request enter same rules.change rules.getNode rules.virginState rules.removeNodes rules.modeSend sessions.modeSend sessions.isLegal sessions.targetsLegal sessions.marked sessions.holdsRemoved search.any search.first search.below table.setVariation table.setField table.inUse table.bit table.information table.removeBelow table.removeOne lookup.verdict lookup.verdictOf lookup.find directory wire escape framed body xor.xorAll xor._⊕_
+rows-hold = refl
+
+-- ---- host calls
+
+-- closing line 2 takes its login, closes its session and empties its reading state; line 1 has neither; there is no line 4
+closed : close moving (plain (0 ∷ [])) 2 ∷ close moving (plain (0 ∷ [])) 1 ∷ close moving (plain (0 ∷ [])) 4 ∷ []
+    ≡ record { refusal = none; hub = firstHub; state = emptied } ∷ record { refusal = none; hub = moving; state = emptied }
+    ∷ record { refusal = some 8; hub = moving; state = plain (0 ∷ []) } ∷ []
 closed = refl
 
--- start zeroes the table; nobody is logged in, and there is no session
-started : rules.start moving windows (replicate 32 7)
-    ≡ record { refusal = none; hub = record { password = replicate 32 7; logins = false ∷ false ∷ false ∷ false ∷ []; slots = firstHub .slots }; table = replicate table.tableSize 0 }
-unfolding windows
-started = refl
-
--- closing a line empties its reading state; there is no line 4
-closed-state : rules.close firstHub (plain (0 ∷ [])) 2 .state ∷ rules.close firstHub (plain (0 ∷ [])) 4 .state ∷ [] ≡ emptied ∷ plain (0 ∷ []) ∷ []
-closed-state = refl
-
--- the host calls' refusals by the paper's numbers, where several apply the first
-refusals : rules.start firstHub [] [] .refusal ∷ rules.start firstHub windows [] .refusal ∷ rules.start firstHub windows (replicate 32 1) .refusal
-    ∷ rules.enrol [] 200 0 .refusal ∷ rules.enrol windows 200 0 .refusal ∷ rules.enrol windows 3 0 .refusal ∷ rules.enrol (replicate table.tableSize 0) 199 0 .refusal
-    ∷ rules.close firstHub emptied 4 .refusal ∷ rules.close firstHub emptied 3 .refusal ∷ []
-    ≡ some 7 ∷ some 14 ∷ none ∷ some 7 ∷ some 11 ∷ some 12 ∷ none ∷ some 8 ∷ none ∷ []
-unfolding windows table.inUse
-refusals = refl
-
-finishes : finish moving 0x0103 511 .answer ∷ finish moving 0x0103 512 .answer ∷ finish moving 0x0102 512 .answer ∷ [] ≡ rules.refusedFinish 9 ∷ rules.refusedFinish 13 ∷ rules.finishedOn 2 9 ∷ []
-unfolding rules.notice wire escape framed body xor.xorAll xor._⊕_ windows loggedIn modeSendOf moving serve request enter same rules.modeSend sessions.modeSend sessions.isLegal sessions.targetsLegal sessions.marked sessions.finish search.any search.first table.inUse lookup.verdict lookup.verdictOf lookup.find directory
-finishes = refl
+-- room is judged before the number; the session's number goes high byte first
+finished : finish moving 0x0103 511 ∷ finish moving 0x0103 512 ∷ finish moving 0x0102 512 ∷ []
+    ≡ record { answer = rules.refusedFinish 9; hub = moving; reply = [] } ∷ record { answer = rules.refusedFinish 13; hub = moving; reply = [] }
+    ∷ record { answer = rules.finishedOn 2 9; hub = loggedIn; reply = 0xC0 ∷ 0x00 ∷ 0x05 ∷ 0x03 ∷ 0x04 ∷ 0x01 ∷ 0x02 ∷ 0x01 ∷ 0xC0 ∷ [] } ∷ []
+unfolding rules.notice sessions.finish search.any search.first wire escape framed body xor.xorAll xor._⊕_
+finished = refl
