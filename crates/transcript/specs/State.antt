@@ -1,0 +1,51 @@
+-- The state as `show` writes it: the lines of hub, table and reading records.
+use Prim.Native.Nat.{ℕ, _+_, _*_}
+use mathlib.Core.List.{List, [], _∷_, _++_}
+use mathlib.Core.Bool.{cond}
+use lib.ListN.{length, getD}
+use lib.Dec.{leb}
+use Rattle.line.specs.declared.Fault.the-variants as fault
+use Rattle.line.specs.declared.Reading.{Reading}
+use Rattle.frame.specs.Reading.{State, plain, escaped, skipping, held, taken, emptiedReading}
+use Rattle.nodes.specs.Table.{nodeCount, recordSize, recordOf}
+use Rattle.sessions.specs.declared.Slot.{Slot}
+use Rattle.sessions.specs.Sessions.{slotCount, closedSlot}
+use Rattle.rules.specs.declared.Hub.{Hub}
+use Rattle.rules.specs.Hub.{lineCount}
+use Rattle.answers.specs.declared.Mode.{Mode}
+use Rattle.answers.specs.declared.Mode.the-variants as mode
+use Rattle.answers.specs.Report.{hasOther}
+use Rattle.answers.specs.Shows.{loginLine, slotLine, nodeLine, readingLine, endLine}
+use Rattle.transcript.specs.Lines.{linesBelow}
+
+-- a slot, where it is open
+unfoldable pub slotLines : ℕ → Slot → List (List ℕ)
+slotLines k s = cond (s .used) (slotLine k (s .number) (s .line) (s .nodes) ∷ []) []
+
+-- a node's record, where it is not all zero
+unfoldable pub recordLines : ℕ → List ℕ → List (List ℕ)
+recordLines n fields = cond (hasOther 0 fields) (nodeLine n fields ∷ []) []
+
+-- record n of a table; one that does not lie within the table is not shown
+unfoldable pub nodeLines : List ℕ → ℕ → List (List ℕ)
+nodeLines t n = cond (leb (n * recordSize + recordSize) (length t)) (recordLines n (recordOf t n)) []
+
+-- how a reading stands
+unfoldable pub modeOf : State → Mode
+modeOf (plain h) = mode.Plain
+modeOf (escaped h) = mode.Escaped
+modeOf (skipping fault.WrongEscape) = mode.Skip1
+modeOf (skipping fault.TooLong) = mode.Skip2
+
+-- a reading record, as it is taken
+unfoldable pub readingLines : ℕ → Reading → List (List ℕ)
+readingLines k r = readingLine k (modeOf (taken r)) (held (taken r)) ∷ []
+
+-- the logins, the open slots, the nodes, the reading records and the end
+unfoldable pub stateLines : Hub → List ℕ → List Reading → List (List ℕ)
+stateLines h t rs =
+    (loginLine (h .logins) ∷ [])
+    ++ linesBelow (λ k. slotLines k (getD (h .slots) k closedSlot)) slotCount
+    ++ linesBelow (nodeLines t) nodeCount
+    ++ linesBelow (λ k. readingLines k (getD rs k emptiedReading)) lineCount
+    ++ (endLine ∷ [])

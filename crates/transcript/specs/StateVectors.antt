@@ -1,0 +1,63 @@
+-- The state's lines at some states.
+use Prim.Native.Nat.{ℕ}
+use mathlib.Core.Path.{_≡_, refl}
+use mathlib.Core.List.{List, [], _∷_, _++_, map}
+use mathlib.Core.Bool.{Bool, true, false}
+use lib.ListN.{set, replicate}
+use Rattle.line.specs.declared.Fault.the-variants as fault
+use Rattle.line.specs.declared.Mode.the-variants as mode
+use Rattle.line.specs.declared.Reading.{Reading}
+use Rattle.nodes.specs.Table.{recordSize}
+use Rattle.sessions.specs.declared.Slot.{Slot}
+use Rattle.sessions.specs.Sessions.{slotCount, closedSlot, targetCount}
+use Rattle.rules.specs.declared.Hub.{Hub}
+use Rattle.text.specs.Text.{ascii, digit, decimalIn, decimal}
+use Rattle.text.specs.Appended.{Memory, appended}
+use Rattle.answers.specs.Bytes.{hexPairs, bytesWord}
+use Rattle.answers.specs.Report.{hasOther}
+use Rattle.answers.specs.Shows.{flag, loginLine, nodeWord, nodesBelow, slotLine, nodeLine, modeWord, readingLine, endLine}
+use Rattle.transcript.specs.Lines.{appendedAll, linesBelow}
+use Rattle.transcript.specs.State.{slotLines, recordLines, nodeLines, modeOf, readingLines, stateLines}
+
+-- a session in slot 2, and in slot 0 what a closed one might have left
+session : Bool → Slot
+session used = record { used = used; number = 0x01A2; line = 3; nodes = set (replicate targetCount false) 7 true }
+
+hub : Hub
+hub = record { password = []; logins = false ∷ true ∷ false ∷ false ∷ []; slots = set (set (replicate slotCount closedSlot) 0 (session false)) 2 (session true) }
+
+-- two records, of which the second is in use, and the front of a third
+table : List ℕ
+table = replicate recordSize 0 ++ (1 ∷ replicate 71 0) ++ (1 ∷ [])
+
+-- records that are taken as they are, and that claim too much
+readings : List Reading
+readings =
+    record { bytes = 0x00 ∷ 0xFE ∷ 0x55 ∷ []; count = 2; mode = mode.Escaped }
+    ∷ record { bytes = 0x00 ∷ 0xFE ∷ 0x55 ∷ []; count = 256; mode = mode.Escaped }
+    ∷ record { bytes = 0x00 ∷ 0xFE ∷ 0x55 ∷ []; count = 2; mode = mode.Skipping fault.TooLong }
+    ∷ record { bytes = 0x00 ∷ 0xFE ∷ 0x55 ∷ []; count = 0; mode = mode.Skipping fault.WrongEscape }
+    ∷ []
+
+node : List ℕ
+node = ascii "node 1 01" ++ replicate 142 48 ++ ascii "\n"
+
+state : stateLines hub table readings
+    ≡ ascii "login 0100\n"
+    ∷ ascii "slot 2 01A2 3 7\n"
+    ∷ node
+    ∷ ascii "line 0 escaped 00FE\n"
+    ∷ ascii "line 1 plain -\n"
+    ∷ ascii "line 2 skip2 -\n"
+    ∷ ascii "line 3 skip1 -\n"
+    ∷ ascii "end\n"
+    ∷ []
+unfolding session hub table readings node
+    ascii digit decimalIn decimal hexPairs bytesWord hasOther flag loginLine nodeWord nodesBelow slotLine nodeLine modeWord readingLine endLine
+    linesBelow slotLines recordLines nodeLines modeOf readingLines stateLines
+state = refl
+
+-- a line that does not fit is left out, and the next one is appended
+lines : appendedAll (0 ∷ 0 ∷ 0 ∷ []) 0 ((1 ∷ 2 ∷ []) ∷ (3 ∷ 4 ∷ []) ∷ (5 ∷ []) ∷ []) ≡ record { bytes = 1 ∷ 2 ∷ 5 ∷ []; place = 3 }
+unfolding appended appendedAll
+lines = refl
