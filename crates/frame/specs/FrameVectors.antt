@@ -7,18 +7,25 @@ use Rattle.frame.specs.declared.Written.the-variants.{Length, ShortRoom,
 use Rattle.frame.specs.declared.WrittenAt.the-variants as at
 use Rattle.frame.specs.Xor.{_⊕_, xorAll}
 use Rattle.frame.specs.Frame.{escape, frame, refused, body, framed, wire, tooShort, wrongProtocol, wrongLength, wrongCheck, judge}
+use Rattle.frame.specs.View.{shownCommand}
 use Rattle.frame.specs.Writing.{write, writeAt}
+
+p4 : List ℕ
+p4 = 0x00 ∷ 0x05 ∷ 0x02 ∷ 0x06 ∷ 0xC0 ∷ 0x00 ∷ 0xC1 ∷ []
+
+p11 : List ℕ
+p11 = 0x00 ∷ 0x03 ∷ 0x00 ∷ 0x01 ∷ 0x03 ∷ []
 
 -- P3 to P6, accepted
 accepted :
     map judge
     ((0x00 ∷ 0x03 ∷ 0x00 ∷ 0x01 ∷ 0x02 ∷ [])
-    ∷ (0x00 ∷ 0x05 ∷ 0x02 ∷ 0x06 ∷ 0xC0 ∷ 0x00 ∷ 0xC1 ∷ [])
+    ∷ p4
     ∷ (0x00 ∷ 0x05 ∷ 0x02 ∷ 0x06 ∷ 0xC1 ∷ 0x00 ∷ 0xC0 ∷ [])
     ∷ (0x00 ∷ 0x05 ∷ 0x02 ∷ 0x06 ∷ 0xDB ∷ 0x00 ∷ 0xDA ∷ [])
     ∷ [])
     ≡ frame 0x0001 [] ∷ frame 0x0206 (0xC0 ∷ 0x00 ∷ []) ∷ frame 0x0206 (0xC1 ∷ 0x00 ∷ []) ∷ frame 0x0206 (0xDB ∷ 0x00 ∷ []) ∷ []
-unfolding judge xorAll _⊕_
+unfolding p4 judge xorAll _⊕_
 accepted = refl
 
 -- P8 to P11, refused; where two checks fail, the first one tells
@@ -27,12 +34,18 @@ refusals :
     ((0x00 ∷ 0x03 ∷ 0x00 ∷ 0x03 ∷ [])
     ∷ (0x01 ∷ 0x03 ∷ 0x00 ∷ 0x01 ∷ 0x03 ∷ [])
     ∷ (0x00 ∷ 0x04 ∷ 0x00 ∷ 0x01 ∷ 0x05 ∷ [])
-    ∷ (0x00 ∷ 0x03 ∷ 0x00 ∷ 0x01 ∷ 0x03 ∷ [])
+    ∷ p11
     ∷ (0x01 ∷ 0x04 ∷ 0x00 ∷ 0x01 ∷ 0x05 ∷ [])
     ∷ [])
     ≡ refused 3 ∷ refused 4 ∷ refused 5 ∷ refused 6 ∷ refused 4 ∷ []
-unfolding judge xorAll _⊕_ tooShort wrongProtocol wrongLength wrongCheck
+unfolding p11 judge xorAll _⊕_ tooShort wrongProtocol wrongLength wrongCheck
 refusals = refl
+
+-- P4 and P11, shown
+shown :
+    map (λ (h : List ℕ). shownCommand (judge h)) (p4 ∷ p11 ∷ []) ≡ 0x0206 ∷ 0 ∷ []
+unfolding p4 p11 judge xorAll _⊕_ wrongCheck
+shown = refl
 
 -- the wire forms of P3 to P6; a length byte C0 is escaped too, so that of 189 zeros takes 8 bytes more
 p3 : List ℕ

@@ -5,6 +5,8 @@ pub mod Line
 pub mod Answers
 pub mod Writing
 pub mod Code
+pub mod Lent
+pub mod View
 pub mod Damage
 pub mod FrameVectors
 pub mod XorLaws
@@ -15,3 +17,4 @@ pub mod EscapeLaws
 pub mod RoundTrip
 pub mod ChangeLaws
 pub mod DamageLaws
+pub mod AnswerLaws

@@ -1,5 +1,5 @@
 // The frame layer's types and definitions: packets to frames and back (document 01, "From packet to frame").
-// The rules are specs/Frame.antt, specs/Reading.antt and specs/Writing.antt. The code is in `checks`, `reader`, `view` and `writer`.
+// The rules are specs/Frame.antt, specs/Reading.antt, specs/Writing.antt and specs/View.antt. The code is in `checks`, `reader`, `view` and `writer`.
 // It stands on what the line layer states.
 use line::Place;
 use line::Reading;
@@ -52,6 +52,12 @@ pub struct Told {
     pub used: usize,
     pub outcome: Outcome,
     pub place: Place,
+}
+
+// An answer apart from its reading, which lies where it was lent.
+pub struct FrameTold {
+    pub used: usize,
+    pub outcome: Outcome,
 }
 
 // What writing into room came to: the wire form's length, or the call's refusal.

@@ -1,20 +1,12 @@
 // The reader on a lent record: the serial service keeps one reading per line, lends it, and the call changes it where it lies
-// (document 01, "From wire to packet"). Each call promises what the call by value does: specs/Answers.antt.
+// (document 01, "From wire to packet"). Each call promises what the call by value does: crates line and frame, specs/Lent.antt.
+// It stands on the readers of packets and of frames.
 ghost use mathlib.Core.Path.{_≡_};
-ghost use Rattle.lent.specs.Answers.{packetTold, ReadsPacket, frameTold, ReadsFrame};
+ghost use Rattle.line.specs.Lent.{packetTold, ReadsPacket};
+ghost use Rattle.frame.specs.Lent.{frameTold, ReadsFrame};
+use frame::FrameTold;
+use line::PacketTold;
 use line::Reading;
-
-// What reading packets tells apart from the record.
-pub struct PacketTold {
-    pub used: usize,
-    pub outcome: line::Outcome,
-}
-
-// The same of frames.
-pub struct FrameTold {
-    pub used: usize,
-    pub outcome: frame::Outcome,
-}
 
 // Reads to the end of the first outcome or of the bytes.
 pub fn read_packet(reading: &mut Reading, wire: &[u8]) -> PacketTold

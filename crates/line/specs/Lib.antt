@@ -5,6 +5,7 @@ pub mod Reader
 pub mod Pieces
 pub mod Answers
 pub mod Code
+pub mod Lent
 pub mod ReaderVectors
 pub mod ScanLaws
 pub mod ReaderLaws

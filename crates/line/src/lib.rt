@@ -61,6 +61,12 @@ pub struct Told {
     pub place: Place,
 }
 
+// An answer apart from its reading, which lies where it was lent.
+pub struct PacketTold {
+    pub used: usize,
+    pub outcome: Outcome,
+}
+
 // What one byte asks the reader to do.
 pub enum Action {
     Store(u8),

@@ -1,16 +1,14 @@
 -- What the proofs of the functions share.
 use Prim.Native.Nat.{ℕ, zero, suc, _+_, _≤_}
-use mathlib.Core.Path.{_≡_, refl, sym, ap, _∙_}
+use mathlib.Core.Path.{_≡_, sym, ap, _∙_}
 use mathlib.Core.List.{List, [], _∷_}
 use native.Mathlib.Nat.{zero-add, suc-add}
 use native.Mathlib.Omega.{arith}
 use lib.ListN.{length, take, drop}
 use lib.Seq.{take-nil, take-take, length-take-le}
-use Rattle.line.specs.declared.Fault.{Fault}
-use Rattle.line.specs.declared.Fault.the-variants as fault
 use Rattle.line.specs.declared.Outcome.{Outcome as Got}
 use Rattle.line.specs.declared.Outcome.the-variants as got
-use Rattle.line.specs.Reader.{limit, refusal as faultNumber}
+use Rattle.line.specs.Reader.{limit}
 use Rattle.frame.specs.declared.Judged.{Judged}
 use Rattle.frame.specs.declared.Judged.the-variants as judged
 use Rattle.frame.specs.declared.Outcome.{Outcome}
@@ -19,16 +17,11 @@ use Rattle.line.specs.declared.Told as line-told
 use Rattle.line.specs.Reader as line
 use Rattle.line.specs.Answers as line-answers
 use Rattle.frame.specs.Frame as Frame
-use Rattle.frame.specs.Frame.{refusal, frame, refused, head, around, judge}
+use Rattle.frame.specs.Frame.{frame, head, around, judge}
 use Rattle.frame.specs.Reading.{State, takenAs, verdict, read}
 use Rattle.frame.specs.Answers.{Judges, told, answerOf, Answers}
 use Rattle.frame.specs.ReadingLaws.{judgedCall, read-judged}
-use Rattle.frame.specs.Code.{causeOf, outcomeOf, Judging}
-
--- a fault and its cause have one number
-pub cause-told : (f : Fault) → some (refused (refusal (causeOf f))) ≡ some (refused (faultNumber f))
-cause-told fault.WrongEscape = refl
-cause-told fault.TooLong = refl
+use Rattle.frame.specs.Code.{outcomeOf, Judging}
 
 drop-take : (i k : ℕ) (l : List ℕ) → drop i (take (i + k) l) ≡ take k (drop i l)
 drop-take zero k l = rw zero-add

@@ -10,7 +10,8 @@ use Rattle.frame.specs.Frame.{Outcome, judge}
 use Rattle.frame.specs.Answers.{Judges, JudgedWithin, judgedAs}
 use Rattle.frame.specs.declared.Judged.{Judged}
 use Rattle.frame.specs.declared.Judged.the-variants as judged
-use Rattle.view.specs.View.{Part, Shows}
+use Rattle.frame.specs.View.{Part}
+use Rattle.view.specs.View.{Shows}
 use Rattle.view.specs.Code.{commandIn, partIn}
 
 -- a part that lies within a list is as long as it says

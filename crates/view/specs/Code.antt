@@ -4,7 +4,7 @@ use mathlib.Core.List.{List}
 use denote.Ref.{RefT}
 use Rattle.frame.specs.declared.Judged.{Judged}
 use Rattle.frame.specs.declared.Judged.the-variants as judged
-use Rattle.view.specs.View.{Part}
+use Rattle.frame.specs.View.{Part}
 
 -- `command_of`
 abbrev pub commandIn : Judged → ℕ

@@ -1,5 +1,5 @@
 // An accepted frame shown as a view of the caller's own bytes, its data neither copied nor moved (document 01, "From packet
-// to frame"). What is shown is the definition's, and the data are that very part of the lent slice: specs/View.antt.
+// to frame"). What is shown is the definition's, and the data are that very part of the lent slice: specs/View.antt here and of `frame`.
 // It stands on what the frame layer states and on the checks on a packet.
 ghost use mathlib.Core.Path.{_≡_};
 ghost use Rattle.frame.specs.Frame.{judge};

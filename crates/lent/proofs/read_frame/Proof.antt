@@ -1,14 +1,15 @@
--- `lent::read_frame` meets its contract: proofs/OnRecord.antt's walk, at `frame::read` and the two parts of its answer. Assumes nothing.
+-- `lent::read_frame` meets its contract: proofs/OnRecord.antt's walk, at `reader::read` and the two parts of its answer. Assumes nothing.
 use contract.Running.{givenOf, tables, tablesOf}
 use denote.Triple.Spec.{tripleOf}
 use denote.Triple.Table.{entered, cited}
 use Rattle.frame.specs.Answers.{Answers}
 use Rattle.frame.specs.Reading
-use Rattle.lent.specs.Answers.{frameTold, ReadsFrame}
+use Rattle.frame.specs.Lent.{frameTold, ReadsFrame}
+use Rattle.frame.specs.AnswerLaws.{frame-lent}
 use Rattle.frame.proofs.Answer as An
 use Rattle.frame.proofs.Answer.Laws as An′
-use Rattle.lent.proofs.FrameTold as To
-use Rattle.lent.proofs.FrameTold.Laws as To′
+use Rattle.frame.proofs.FrameTold as To
+use Rattle.frame.proofs.FrameTold.Laws as To′
 use Rattle.reader.proofs.read.Symbol as read-def
 use Rattle.reader.proofs.read.Symbol.{name as #reader·read}
 use Rattle.reader.proofs.read.Met as read-thm
@@ -33,7 +34,7 @@ reading = record {
   told-of = frameTold;
   Gives = λ h w a. Answers (Reading.read (Reading.taken h) w) a;
   Tells = ReadsFrame;
-  same = λ h w a e. e;
+  same = frame-lent;
   #read = #reader·read;
   #record = #lent·frame-record;
   #told = #lent·frame-told;

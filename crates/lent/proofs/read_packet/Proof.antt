@@ -1,14 +1,15 @@
--- `lent::read_packet` meets its contract: proofs/OnRecord.antt's walk, at `line::read` and the two parts of its answer. Assumes nothing.
+-- `lent::read_packet` meets its contract: proofs/OnRecord.antt's walk, at `wire::read` and the two parts of its answer. Assumes nothing.
 use contract.Running.{givenOf, tables, tablesOf}
 use denote.Triple.Spec.{tripleOf}
 use denote.Triple.Table.{entered, cited}
 use Rattle.line.specs.Answers.{taken, Answers}
 use Rattle.line.specs.Reader
-use Rattle.lent.specs.Answers.{packetTold, ReadsPacket}
+use Rattle.line.specs.Lent.{packetTold, ReadsPacket}
+use Rattle.line.specs.CallLaws.{packet-lent}
 use Rattle.line.proofs.Answer as An
 use Rattle.line.proofs.Answer.Laws as An′
-use Rattle.lent.proofs.PacketTold as To
-use Rattle.lent.proofs.PacketTold.Laws as To′
+use Rattle.line.proofs.PacketTold as To
+use Rattle.line.proofs.PacketTold.Laws as To′
 use Rattle.wire.proofs.read.Symbol as read-def
 use Rattle.wire.proofs.read.Symbol.{name as #wire·read}
 use Rattle.wire.proofs.read.Met as read-thm
@@ -33,7 +34,7 @@ reading = record {
   told-of = packetTold;
   Gives = λ h w a. Answers (Reader.read (taken h) w) a;
   Tells = ReadsPacket;
-  same = λ h w a e. e;
+  same = packet-lent;
   #read = #wire·read;
   #record = #lent·packet-record;
   #told = #lent·packet-told;

@@ -1,11 +1,14 @@
 use Prim.Native.Nat.{ℕ, _-_, _≤_}
-use mathlib.Core.Path.{_≡_}
+use mathlib.Core.Path.{_≡_, ap}
+use mathlib.Core.Option.{some}
 use native.Mathlib.Nat.{sub-zero}
 use native.Mathlib.Omega.{arith}
 use lib.ListN.{take, drop}
 use Rattle.line.specs.Reader.{limit}
+use Rattle.frame.specs.Frame.{refused}
 use Rattle.frame.specs.Reading.{verdict}
-use Rattle.reader.proofs.Laws.{cause-told, judging}
+use Rattle.frame.specs.AnswerLaws.{cause-number}
+use Rattle.reader.proofs.Laws.{judging}
 use borrow.Author.Needs.{needs}
 use Rattle.reader.proofs.judge_in.Statement.{statement}
 use Rattle.reader.proofs.judge_in.Tie as tie
@@ -54,7 +57,7 @@ returns-2 c =
 
 returns-3 : tie.Need-returns-3
 unfolding verdict
-returns-3 c = record { told = rw (c .before .before .got2 .given .1, c .cause-of .ensures) (cause-told (c .before .before .got2 .given .0 .0)); within = tt; full = c .before .before .before .before .before .pre .0 }
+returns-3 c = record { told = rw (c .before .before .got2 .given .1, c .cause-of .ensures) (ap (λ (n : ℕ). some (refused n)) (cause-number (c .before .before .got2 .given .0 .0))); within = tt; full = c .before .before .before .before .before .pre .0 }
 
 pub judge-in-spec : {M : Type 1} → statement M
 judge-in-spec =

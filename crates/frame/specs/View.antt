@@ -1,0 +1,27 @@
+-- What is shown of a packet, and where it lies (document 01, "From packet to frame").
+use Prim.Native.Nat.{ℕ, _+_, _≤_}
+use mathlib.Core.Path.{_≡_}
+use mathlib.Core.List.{List, []}
+use lib.ListN.{length, take, drop}
+use denote.Ref.{RefT}
+use Rattle.frame.specs.Frame.{Outcome, frame, refused, head}
+
+-- a frame's command number and data; of a refused packet 0 and none
+abbrev pub shownCommand : Outcome → ℕ
+shownCommand (frame c d) = c
+shownCommand (refused n) = 0
+
+abbrev pub shownData : Outcome → List ℕ
+shownData (frame c d) = d
+shownData (refused n) = []
+
+-- where the data begin: behind a frame's head; of a refused packet, at its start
+abbrev pub shownStart : Outcome → ℕ
+shownStart (frame c d) = head
+shownStart (refused n) = 0
+
+-- the reference r is the n bytes of the lent slice x from s on, where they lie: no copy of them
+pub record Part (x : RefT (List ℕ)) (s n : ℕ) (r : RefT (List ℕ)) : Type 0 where
+  pub place : r .ptr ≡ (x .ptr .0, x .ptr .1 + s)
+  pub bytes : r .now ≡ take n (drop s (x .now))
+  pub within : s + n ≤ length (x .now)
