@@ -1,58 +1,70 @@
--- Mode send, finish and remove nodes, computed: all nodes are in use, and session 1 on line 0 holds node 199.
-use Prim.Native.Nat.{ℕ, _-_}
+-- Mode send, finish and remove nodes, computed: nodes 0 to 19 are in use, and session 1 on line 0 holds node 5.
+use Prim.Native.Nat.{ℕ, _-_, _*_}
 use mathlib.Core.Path.{_≡_, refl}
-use mathlib.Core.List.{List, [], _∷_, _++_}
+use mathlib.Core.List.{List, [], _∷_, _++_, map}
+use mathlib.Core.Bool.{true, false}
 use mathlib.Core.Option.{none, some}
 use lib.ListN.{length, drop, replicate}
-use Rattle.nodes.specs.Table.{tableSize, inUse, bit}
+use Rattle.nodes.specs.Table.{recordSize, inUse, bit}
 use Rattle.sessions.specs.declared.Slot.{Slot}
 use Rattle.sessions.specs.declared.ModeSend.{ModeSend}
 use Rattle.sessions.specs.Search.{any, first, below}
 use Rattle.sessions.specs.Sessions.{slotCount, closedSlot, holdsRemoved, closeRemoved, maxIndices, modeSendOf, targetsLegal, isLegal, marked, sessionSlot, modeSend, finish}
 
 unfoldable nodes : List ℕ
-nodes = replicate tableSize 1
+nodes = replicate (20 * recordSize) 1
 
--- the places behind the indices have 199, which counts for nothing
+-- a mode send with this originator, priority, count and lock, of the first nodes
+abbrev asked : ℕ → ℕ → ℕ → ℕ → ModeSend
+asked originator priority count lock = record { session = 1; originator = originator; priority = priority; count = count; indices = below maxIndices; lock = lock }
+
+-- the limits: count 0, 1, 20, 21; priority 7, 8; lock 1, 2; originators 3, 4, 5
+limits : map (isLegal nodes) (asked 1 3 0 0 ∷ asked 1 3 1 0 ∷ asked 1 3 20 0 ∷ asked 1 3 21 0 ∷ asked 1 7 1 0 ∷ asked 1 8 1 0
+    ∷ asked 1 3 1 1 ∷ asked 1 3 1 2 ∷ asked 3 3 1 0 ∷ asked 4 3 1 0 ∷ asked 5 3 1 0 ∷ [])
+    ≡ false ∷ true ∷ true ∷ false ∷ true ∷ false ∷ true ∷ false ∷ true ∷ false ∷ true ∷ []
+unfolding nodes isLegal targetsLegal inUse any below
+limits = refl
+
+-- a mode send of these nodes; the places behind the indices have 5, which counts for nothing
 unfoldable request : ℕ → List ℕ → ModeSend
-request x ns = record { session = x; originator = 1; priority = 3; count = length ns; indices = ns ++ replicate (maxIndices - length ns) 199; lock = 0 }
-
-unfoldable busy : List Slot
-busy = modeSend (replicate slotCount closedSlot) nodes 0 (request 1 (199 ∷ [])) .slots
-
-unfoldable status : List Slot → ModeSend → ℕ
-status ss r = modeSend ss nodes 1 r .status
+request x ns = record { session = x; originator = 1; priority = 3; count = length ns; indices = ns ++ replicate (maxIndices - length ns) 5; lock = 0 }
 
 -- the lowest of the eight slots has the session
-opened : busy ≡ sessionSlot 0 (request 1 (199 ∷ [])) ∷ replicate 7 closedSlot
+unfoldable busy : List Slot
+busy = sessionSlot 0 (request 1 (5 ∷ [])) ∷ replicate 7 closedSlot
+
+opened : modeSend (replicate slotCount closedSlot) nodes 0 (request 1 (5 ∷ [])) ≡ record { status = 0; slots = busy }
 unfolding nodes request busy modeSend isLegal targetsLegal inUse any first marked
 opened = refl
 
 unfoldable full : List Slot
 full = replicate slotCount (sessionSlot 0 (request 1 []))
 
--- a node named twice, a number that is open, no free slot, a node that is held, and none of these
-statuses : status busy (request 2 (7 ∷ 7 ∷ [])) ∷ status busy (request 1 (199 ∷ [])) ∷ status full (request 2 (7 ∷ []))
-    ∷ status busy (request 2 (7 ∷ 199 ∷ [])) ∷ status busy (request 2 (7 ∷ [])) ∷ []
-    ≡ 5 ∷ 3 ∷ 4 ∷ 1 ∷ 0 ∷ []
+unfoldable status : List Slot → ModeSend → ℕ
+status ss r = modeSend ss nodes 1 r .status
+
+-- a node that is not in use, one named twice, a number that is open, no free slot, a node that is held, and none of these
+statuses : status busy (request 2 (20 ∷ [])) ∷ status busy (request 2 (7 ∷ 7 ∷ [])) ∷ status busy (request 1 (5 ∷ [])) ∷ status full (request 2 (7 ∷ []))
+    ∷ status busy (request 2 (7 ∷ 5 ∷ [])) ∷ status busy (request 2 (7 ∷ [])) ∷ []
+    ≡ 5 ∷ 5 ∷ 3 ∷ 4 ∷ 1 ∷ 0 ∷ []
 unfolding nodes request busy full status modeSend isLegal targetsLegal inUse any first marked
 statuses = refl
 
 -- an open number comes before the lack of a slot; a session of the same line holds its nodes; the number in a free slot is not open
-firsts : status full (request 1 (7 ∷ [])) ∷ modeSend busy nodes 0 (request 2 (199 ∷ [])) .status ∷ status busy (request 0 (7 ∷ [])) ∷ [] ≡ 3 ∷ 1 ∷ 0 ∷ []
+firsts : status full (request 1 (7 ∷ [])) ∷ modeSend busy nodes 0 (request 2 (5 ∷ [])) .status ∷ status busy (request 0 (7 ∷ [])) ∷ [] ≡ 3 ∷ 1 ∷ 0 ∷ []
 unfolding nodes request busy full status modeSend isLegal targetsLegal inUse any first marked
 firsts = refl
 
 -- two slots with the same number: finish closes the lowest, and tells its line
 unfoldable slot : ℕ → ℕ → Slot
-slot l x = sessionSlot l (request x (199 ∷ []))
+slot l x = sessionSlot l (request x (5 ∷ []))
 
 finished : finish (closedSlot ∷ slot 3 1 ∷ slot 2 1 ∷ []) 1 ∷ finish (slot 3 1 ∷ []) 2 ∷ [] ≡ some (record { line = 3; slots = closedSlot ∷ closedSlot ∷ slot 2 1 ∷ [] }) ∷ none ∷ []
 unfolding request slot finish any first marked
 finished = refl
 
 -- node 7 is removed: of two sessions the one that has it closes, with its other node
-closed : closeRemoved nodes (128 ∷ []) (sessionSlot 0 (request 1 (7 ∷ 199 ∷ [])) ∷ slot 0 2 ∷ []) ≡ closedSlot ∷ slot 0 2 ∷ []
+closed : closeRemoved nodes (128 ∷ []) (sessionSlot 0 (request 1 (7 ∷ 5 ∷ [])) ∷ slot 0 2 ∷ []) ≡ closedSlot ∷ slot 0 2 ∷ []
 unfolding nodes request slot holdsRemoved any below bit inUse marked
 closed = refl
 
