@@ -51,7 +51,7 @@ fn closed_line(hub: Hub, line: u8) -> Hub
     let before = hub.logins;
     let opened = hub.slots;
     let logins = access::with_login(before, line, false);
-    let slots = slots::close_line(opened, line);
+    let slots = closing::close_line(opened, line);
     Hub {
         password: password,
         logins: logins,

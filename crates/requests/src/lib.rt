@@ -214,7 +214,7 @@ fn remove_nodes(hub: Hub, table: &mut [u8], room: &mut [u8], bits: &[u8]) -> Ser
     ensures { λ r. ⌜ Serves (removeNodes hub (now (table .entry)) (now (bits .entry))) (now (room .entry)) r (now (table .exit)) (now (room .exit)) ⌝ }
 {
     let slots = hub.slots;
-    let left = removal::close_removed(slots, table, bits);
+    let left = closing::close_removed(slots, table, bits);
     table::remove(table, bits);
     let scene_deleted = [0];
     let n = reply(room, 0x0107, &scene_deleted);

@@ -1,4 +1,4 @@
--- Mode send, finish and remove nodes, computed: nodes 0 to 19 are in use, and session 1 on line 0 holds node 5.
+-- Mode send, finish, close a line and remove nodes, computed: nodes 0 to 19 are in use, and session 1 on line 0 holds node 5.
 use Prim.Native.Nat.{ℕ, _-_, _*_}
 use mathlib.Core.Path.{_≡_, refl}
 use mathlib.Core.List.{List, [], _∷_, _++_, map}
@@ -9,7 +9,7 @@ use Rattle.nodes.specs.Table.{recordSize, inUse, bit}
 use Rattle.sessions.specs.declared.Slot.{Slot}
 use Rattle.sessions.specs.declared.ModeSend.{ModeSend}
 use Rattle.sessions.specs.Search.{any, first, below}
-use Rattle.sessions.specs.Sessions.{slotCount, closedSlot, holdsRemoved, closeRemoved, maxIndices, modeSendOf, targetsLegal, isLegal, marked, sessionSlot, modeSend, finish}
+use Rattle.sessions.specs.Sessions.{slotCount, closedSlot, closeLine, holdsRemoved, closeRemoved, maxIndices, modeSendOf, targetsLegal, isLegal, marked, sessionSlot, modeSend, finish}
 
 unfoldable nodes : List ℕ
 nodes = replicate (20 * recordSize) 1
@@ -63,10 +63,15 @@ finished : finish (closedSlot ∷ slot 3 1 ∷ slot 2 1 ∷ []) 1 ∷ finish (sl
 unfolding request slot finish any first marked
 finished = refl
 
+-- line 3 is closed: its session closes, and that of line 2 stays
+closed-line : closeLine 3 (slot 3 1 ∷ slot 2 2 ∷ []) ≡ closedSlot ∷ slot 2 2 ∷ []
+unfolding request slot marked
+closed-line = refl
+
 -- node 7 is removed: of two sessions the one that has it closes, with its other node
-closed : closeRemoved nodes (128 ∷ []) (sessionSlot 0 (request 1 (7 ∷ 5 ∷ [])) ∷ slot 0 2 ∷ []) ≡ closedSlot ∷ slot 0 2 ∷ []
+closed-removed : closeRemoved nodes (128 ∷ []) (sessionSlot 0 (request 1 (7 ∷ 5 ∷ [])) ∷ slot 0 2 ∷ []) ≡ closedSlot ∷ slot 0 2 ∷ []
 unfolding nodes request slot holdsRemoved any below bit inUse marked
-closed = refl
+closed-removed = refl
 
 -- the data bytes 0 to 30, and none
 read : modeSendOf (below 31) ∷ modeSendOf [] ∷ []

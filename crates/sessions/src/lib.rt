@@ -1,5 +1,5 @@
 // The open sessions: which line holds which motors (document 01, "What the commands do", mode send and host calls).
-// It has no code: the types stand here, the rules in specs/Sessions.antt. The code is in `slots`, `removal`, `asked`, `targets` and `opening`.
+// It has no code: the types stand here, the rules in specs/Sessions.antt. The code is in `slots`, `closing`, `asked`, `targets` and `opening`.
 // It stands on the node table's rules.
 
 // Slots for all lines together, the nodes that a session may hold, and the indices of a mode send.

@@ -1,9 +1,9 @@
-// The session slots: closing sessions, and finding one by its number (document 01, host calls).
+// The session slots: none open, one by its number, finishing it (document 01, host calls).
 // Each answer is the definition's: crate sessions, specs/Sessions.antt. It stands on the sessions' rules and the node table.
 ghost use mathlib.Core.Path.{_≡_};
 ghost use lib.ListN.{replicate};
 ghost use Rattle.sessions.specs.Search.{first};
-ghost use Rattle.sessions.specs.Sessions.{slotCount, closedSlot, isNumbered, isOn, holds, closeIf, closeLine, finish, ended};
+ghost use Rattle.sessions.specs.Sessions.{slotCount, closedSlot, isNumbered, holds, finish, ended};
 use sessions::Ended;
 use sessions::Slot;
 use sessions::Told;
@@ -14,19 +14,6 @@ pub fn none() -> [Slot; sessions::SLOTS]
 {
     let slot = closed_slot();
     [slot; sessions::SLOTS]
-}
-
-// The sessions of a line close.
-pub fn close_line(slots: [Slot; sessions::SLOTS], line: u8) -> [Slot; sessions::SLOTS]
-    ensures { λ r. ⌜ r ≡ closeLine line slots ⌝ }
-{
-    let mut out = slots;
-    let mut k = 0;
-    while k < sessions::SLOTS {
-        out[k] = close_if_on(slots[k], line);
-        k += 1;
-    }
-    out
 }
 
 // The session with a number closes, in the lowest slot that has it.
@@ -62,25 +49,7 @@ pub fn closed_slot() -> Slot
     }
 }
 
-fn close_if_on(slot: Slot, line: u8) -> Slot
-    ensures { λ r. ⌜ r ≡ closeIf (isOn line) slot ⌝ }
-{
-    if is_on(slot, line) {
-        return closed_slot();
-    }
-    slot
-}
-
-// Whether an open session is on a line, has a number, holds a node.
-fn is_on(slot: Slot, line: u8) -> bool
-    ensures { λ r. ⌜ r ≡ isOn line slot ⌝ }
-{
-    if slot.used {
-        return slot.line == line;
-    }
-    false
-}
-
+// Whether an open session has a number, holds a node.
 fn is_numbered(slot: Slot, number: u16) -> bool
     ensures { λ r. ⌜ r ≡ isNumbered number slot ⌝ }
 {

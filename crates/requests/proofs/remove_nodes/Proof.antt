@@ -8,7 +8,7 @@ use Rattle.requests.proofs.remove_nodes.Lts as lts
 use Rattle.table.proofs.remove.Reads as remove-reads
 use Rattle.requests.proofs.reply.Reads as reply-reads
 use Rattle.access.proofs.with_slots.Reads as with-slots-reads
-use Rattle.removal.proofs.close_removed.Reads as close-removed-reads
+use Rattle.closing.proofs.close_removed.Reads as close-removed-reads
 
 -- src/lib.rt:190:9
 close-removed-requires : tie.Need-close-removed-requires

@@ -1,23 +1,16 @@
-use Prim.Native.Nat.{_≤_, _<_, _-_}
-use mathlib.Core.List.{_++_, map}
-use mathlib.Core.Path.{_≡_, refl, _∙_}
-use native.Mathlib.Omega.{arith}
-use lib.ListN.{length, take, drop}
+use Prim.Native.Nat.{_-_}
+use mathlib.Core.Path.{refl}
 use borrow.Author.Needs.{needs}
-use Rattle.sessions.specs.ListLaws.{map-on, map-end}
 use Rattle.sessions.specs.Sessions.{slotCount, isOn, closeIf}
-use Rattle.slots.proofs.close_line.Statement.{statement}
-use Rattle.slots.proofs.close_line.Tie as tie
+use Rattle.closing.proofs.Laws.{DoneBelow, done-more, done-all}
+use Rattle.closing.proofs.close_line.Statement.{statement}
+use Rattle.closing.proofs.close_line.Tie as tie
 
--- The slots before the place are done, and the others as they were.
 abbrev Inv-loop : tie.InvT-loop
-Inv-loop line slots out₀ k₀ out k = (k ≤ slotCount) × (length slots ≡ slotCount) × (out ≡ map (closeIf (isOn line)) (take k slots) ++ drop k slots)
+Inv-loop line slots out₀ k₀ out k = DoneBelow (closeIf (isOn line)) slots out k
 
 abbrev μ-loop : tie.MeasureT-loop
 μ-loop line slots out₀ k₀ out k = slotCount - k
-
-within : (c : tie.In-loop Inv-loop μ-loop) → c .before .loop .k < length (c .before .before .args .t1)
-within c = omega arith
 
 loop-holds : tie.Need-loop-holds Inv-loop μ-loop
 loop-holds c = (search needs, search needs, refl)
@@ -44,10 +37,10 @@ loop-less : tie.Need-loop-less Inv-loop μ-loop
 loop-less c = search needs
 
 loop-again : tie.Need-loop-again Inv-loop μ-loop
-loop-again c = (search needs, search needs, rw (c .close-if-on .ensures, c .before .before .before .loop .inv .2) (map-on _ _ _ _ (within (c .before .before))))
+loop-again c = (search needs, search needs, done-more _ _ _ _ _ _ (c .before .before .before .loop .inv) (c .before .before .loop-test .taken) (c .close-if-on .ensures))
 
 returns : tie.Need-returns Inv-loop μ-loop
-returns c = c .before .loop .inv .2 ∙ map-end _ (c .before .before .args .t1) (c .before .loop .k) (omega arith)
+returns c = done-all _ _ _ _ (c .before .loop .inv) (c .loop-test .left)
 
 pub close-line-spec : {M : Type 1} → statement M
 close-line-spec =

@@ -1,10 +1,23 @@
-// The sessions that close because a node of theirs is removed (document 01, remove nodes).
+// The sessions that close: those of a closed line, and those with a removed node (document 01, close a line and remove nodes).
 // The slots left are the definition's: crate sessions, specs/Sessions.antt. It stands on the slots and the node table.
 ghost use mathlib.Core.Path.{_≡_};
 ghost use mathlib.Core.Bool.{_&&_, _||_};
 ghost use Rattle.nodes.specs.Table.{isRemoved};
-ghost use Rattle.sessions.specs.Sessions.{holds, closeIf, holdsRemoved, closeRemoved};
+ghost use Rattle.sessions.specs.Sessions.{isOn, holds, closeIf, closeLine, holdsRemoved, closeRemoved};
 use sessions::Slot;
+
+// The sessions of a line close.
+pub fn close_line(slots: [Slot; sessions::SLOTS], line: u8) -> [Slot; sessions::SLOTS]
+    ensures { λ r. ⌜ r ≡ closeLine line slots ⌝ }
+{
+    let mut out = slots;
+    let mut k = 0;
+    while k < sessions::SLOTS {
+        out[k] = close_if_on(slots[k], line);
+        k += 1;
+    }
+    out
+}
 
 // The sessions with a node that is removed close.
 pub fn close_removed(
@@ -21,6 +34,17 @@ pub fn close_removed(
         k += 1;
     }
     out
+}
+
+fn close_if_on(slot: Slot, line: u8) -> Slot
+    ensures { λ r. ⌜ r ≡ closeIf (isOn line) slot ⌝ }
+{
+    if slot.used {
+        if slot.line == line {
+            return slots::closed_slot();
+        }
+    }
+    slot
 }
 
 fn close_if_removed(slot: Slot, table: &[u8], bits: &[u8]) -> Slot

@@ -7,8 +7,8 @@ use Rattle.nodes.specs.Table.{nodeCount, isRemoved}
 use Rattle.sessions.specs.Search.{any, below}
 use Rattle.sessions.specs.SearchLaws.{any-below}
 use Rattle.sessions.specs.Sessions.{holds, holdsRemoved}
-use Rattle.removal.proofs.holds_removed.Statement.{statement}
-use Rattle.removal.proofs.holds_removed.Tie as tie
+use Rattle.closing.proofs.holds_removed.Statement.{statement}
+use Rattle.closing.proofs.holds_removed.Tie as tie
 
 -- The nodes below k are looked at.
 abbrev Inv-loop : tie.InvT-loop

@@ -1,7 +1,7 @@
 use mathlib.Core.Path.{sym, _∙_}
 use borrow.Author.Needs.{needs}
-use Rattle.removal.proofs.found_removed.Statement.{statement}
-use Rattle.removal.proofs.found_removed.Tie as tie
+use Rattle.closing.proofs.found_removed.Statement.{statement}
+use Rattle.closing.proofs.found_removed.Tie as tie
 
 returns : tie.Need-returns
 returns c = search needs

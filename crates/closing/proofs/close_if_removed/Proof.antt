@@ -1,7 +1,7 @@
 use mathlib.Core.Path.{sym, _∙_}
 use borrow.Author.Needs.{needs}
-use Rattle.removal.proofs.close_if_removed.Statement.{statement}
-use Rattle.removal.proofs.close_if_removed.Tie as tie
+use Rattle.closing.proofs.close_if_removed.Statement.{statement}
+use Rattle.closing.proofs.close_if_removed.Tie as tie
 
 holds-removed-requires : tie.Need-holds-removed-requires
 holds-removed-requires c κs = search needs
