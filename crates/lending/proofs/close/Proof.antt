@@ -51,9 +51,9 @@ use Rattle.service.proofs.close as on-lent
 use Rattle.service.proofs.close.Symbol as on-lent-def
 use Rattle.service.proofs.close.Symbol.{name as #service·close}
 use Rattle.service.proofs.close.Met as on-lent-thm
-use Rattle.lending.proofs.closed_with.Symbol as with-def
-use Rattle.lending.proofs.closed_with.Symbol.{name as #lending·closed-with}
-use Rattle.lending.proofs.closed_with.Met as with-thm
+use Rattle.parts.proofs.closed_with.Symbol as with-def
+use Rattle.parts.proofs.closed_with.Symbol.{name as #parts·closed-with}
+use Rattle.parts.proofs.closed_with.Met as with-thm
 use Rattle.lending.proofs.close.Key.{name as #lending·close}
 use Rattle.lending.proofs.close as close
 use Rattle.lending.proofs.close.Statement as stated
@@ -110,7 +110,7 @@ module _ {M : Type 1} (𝓤 : URA M) (H : Heap 𝓤) (A : Atoms 𝓤) (W : Given
       nothing ! $ owned ! u8 (Is u8) (uint-makes 𝓤 H A W w8) n _ (refl, fits) $ fjoin ! $ owned ! (rowOf R) (Is (rowOf R)) (makes (R .type) (R .pure) 𝓤 H A) h _ is-h $ fjoin ! $
       owned ! (rowOf Hb) (Is (rowOf Hb)) (makes (Hb .type) (Hb .pure) 𝓤 H A) g _ is-g $ fjoin ! $ nothing ! $ done !
 
-  module _ (C : Calls 𝓤 H) (Λ : Loops 𝓤 H) (fm : FmC 𝓤 H (W .laws) C) (known : Triple 𝓤 (C #service·close) (Close 𝓤 H A mem′ run)) (known-with : Triple 𝓤 (C #lending·closed-with) (Whole To R An closedAnswer 𝓤 H A)) where
+  module _ (C : Calls 𝓤 H) (Λ : Loops 𝓤 H) (fm : FmC 𝓤 H (W .laws) C) (known : Triple 𝓤 (C #service·close) (Close 𝓤 H A mem′ run)) (known-with : Triple 𝓤 (C #parts·closed-with) (Whole To R An closedAnswer 𝓤 H A)) where
     walk : ent 𝓤 (onEntry 𝓤 H A close.signature tt tt x at) (WpFn 𝓤 H C Λ code.function (valOf Hb g ∷ valOf R h ∷ vint w8 n ∷ []) Post)
     walk =
         qed W (‵ ftrue ∷ ‵ (owns (rowOf Hb ∷ rowOf R ∷ u8 ∷ []) x at) ∷ []) ∵ enter ! C Λ code.function (valOf Hb g ∷ valOf R h ∷ vint w8 n ∷ []) _ $
@@ -137,7 +137,7 @@ module _ {M : Type 1} (𝓤 : URA M) (H : Heap 𝓤) (A : Atoms 𝓤) (W : Given
         keep ! (0 ∷ []) $ by ! (exits a w (final g h n t (ws .1 .0) a e₁ e₂))))))))))))))))))
 
 close-meets : {M : Type 1} (𝓤 : URA M) (H : Heap 𝓤) (A : Atoms 𝓤) (W : Given 𝓤 H A) (mem′ : Memory → SProp 𝓤) (run : Routine → Fun 𝓤) (𝓣 : Tables 𝓤 H)
-    → Triple 𝓤 (𝓣 .C #service·close) (Close 𝓤 H A mem′ run) → Triple 𝓤 (𝓣 .C #lending·closed-with) (Whole To R An closedAnswer 𝓤 H A)
+    → Triple 𝓤 (𝓣 .C #service·close) (Close 𝓤 H A mem′ run) → Triple 𝓤 (𝓣 .C #parts·closed-with) (Whole To R An closedAnswer 𝓤 H A)
     → Meets 𝓤 H A close.signature (WpFn 𝓤 H (𝓣 .C) (𝓣 .Λ) code.function) (close.spec 𝓤 H A mem′ run)
 close-meets 𝓤 H A W mem′ run 𝓣 known known-with =
     walk-meets 𝓤 H A close.ended stayed W (goes-none 𝓤 H A W 0 (λ _. rowOf Hb) yes (λ κs x f. refl), (goes-none 𝓤 H A W 0 (λ _. rowOf R) yes (λ κs x f. refl), (goes-none 𝓤 H A W 0 (λ _. u8) yes (λ κs x f. refl), tt)))
@@ -153,4 +153,4 @@ close-spec 𝓤 H 𝓜 𝓖 𝓡 =
     (tables 𝓤 H 𝓜 𝓡 code.env .C) (tables 𝓤 H 𝓜 𝓡 code.env .Λ) #lending·close code.function (code.unfolded 𝓤 H 𝓜 𝓡)
     (close-meets 𝓤 H (𝓖 .A) (givenOf 𝓤 H 𝓜 𝓖) (𝓜 .mem) (𝓡 .run) (tablesOf 𝓤 H 𝓜 (tables 𝓤 H 𝓜 𝓡 code.env))
     (cited 𝓤 H (Close 𝓤 H (𝓖 .A) (𝓜 .mem) (𝓡 .run)) 𝓜 𝓡 code.env #service·close on-lent-def.routine code.calls-service·close (on-lent-thm.met 𝓤 H 𝓜 𝓖 𝓡))
-    (cited 𝓤 H (Whole To R An closedAnswer 𝓤 H (𝓖 .A)) 𝓜 𝓡 code.env #lending·closed-with with-def.routine code.calls-lending·closed-with (with-thm.met 𝓤 H 𝓜 𝓖 𝓡)))
+    (cited 𝓤 H (Whole To R An closedAnswer 𝓤 H (𝓖 .A)) 𝓜 𝓡 code.env #parts·closed-with with-def.routine code.calls-parts·closed-with (with-thm.met 𝓤 H 𝓜 𝓖 𝓡)))

@@ -57,9 +57,9 @@ use Rattle.service.proofs.feed as on-lent
 use Rattle.service.proofs.feed.Symbol as on-lent-def
 use Rattle.service.proofs.feed.Symbol.{name as #service·feed}
 use Rattle.service.proofs.feed.Met as on-lent-thm
-use Rattle.lending.proofs.fed_with.Symbol as with-def
-use Rattle.lending.proofs.fed_with.Symbol.{name as #lending·fed-with}
-use Rattle.lending.proofs.fed_with.Met as with-thm
+use Rattle.parts.proofs.fed_with.Symbol as with-def
+use Rattle.parts.proofs.fed_with.Symbol.{name as #parts·fed-with}
+use Rattle.parts.proofs.fed_with.Met as with-thm
 use Rattle.lending.proofs.feed.Key.{name as #lending·feed}
 use Rattle.lending.proofs.feed as feed
 use Rattle.lending.proofs.feed.Statement as stated
@@ -160,7 +160,7 @@ module _ {M : Type 1} (𝓤 : URA M) (H : Heap 𝓤) (A : Atoms 𝓤) (W : Given
       owned ! (rowOf R) (Is (rowOf R)) (makes (R .type) (R .pure) 𝓤 H A) h _ is-h $ fjoin ! $ move ! (2 ∷ 0 ∷ []) $ fjoin ! $
       owned ! (rowOf Hb) (Is (rowOf Hb)) (makes (Hb .type) (Hb .pure) 𝓤 H A) g _ is-g $ fjoin ! $ frame ! $ done !
 
-  module _ (C : Calls 𝓤 H) (Λ : Loops 𝓤 H) (fm : FmC 𝓤 H (W .laws) C) (known : Triple 𝓤 (C #service·feed) (Feed 𝓤 H A mem′ run)) (known-with : Triple 𝓤 (C #lending·fed-with) (Whole To R An fedAnswer 𝓤 H A)) where
+  module _ (C : Calls 𝓤 H) (Λ : Loops 𝓤 H) (fm : FmC 𝓤 H (W .laws) C) (known : Triple 𝓤 (C #service·feed) (Feed 𝓤 H A mem′ run)) (known-with : Triple 𝓤 (C #parts·fed-with) (Whole To R An fedAnswer 𝓤 H A)) where
     walk : Is (MutSlice (named 0) κ₀ u8) tb (slice tb ∷ []) → Is (ShrSlice (named 1) κ₁ u8) bs (slice bs ∷ []) → Is (MutSlice (named 2) κ₂ u8) rm (slice rm ∷ [])
         → ent 𝓤 (onEntry 𝓤 H A feed.signature (κ₀, (κ₁, (κ₂, tt))) (q₀, (q₁, (q₂, tt))) x at) (WpFn 𝓤 H C Λ code.function (valOf Hb g ∷ slice tb ∷ valOf R h ∷ vint w8 n ∷ slice bs ∷ slice rm ∷ []) Post)
     walk is-t is-b is-r =
@@ -204,7 +204,7 @@ module _ {M : Type 1} (𝓤 : URA M) (H : Heap 𝓤) (A : Atoms 𝓤) (W : Given
         by ! (exits a w (ws .1 .0) (ws .1 .1 .1 .1 .1 .0) lt lr (final g (now tb) h n (now bs) (now rm) r (ws .1 .0) (ws .1 .1 .0) (ws .1 .1 .1 .1 .1 .0) a e₁ e₂)))))))))))))))))))))))))))
 
 feed-meets : {M : Type 1} (𝓤 : URA M) (H : Heap 𝓤) (A : Atoms 𝓤) (W : Given 𝓤 H A) (mem′ : Memory → SProp 𝓤) (run : Routine → Fun 𝓤) (𝓣 : Tables 𝓤 H)
-    → Triple 𝓤 (𝓣 .C #service·feed) (Feed 𝓤 H A mem′ run) → Triple 𝓤 (𝓣 .C #lending·fed-with) (Whole To R An fedAnswer 𝓤 H A)
+    → Triple 𝓤 (𝓣 .C #service·feed) (Feed 𝓤 H A mem′ run) → Triple 𝓤 (𝓣 .C #parts·fed-with) (Whole To R An fedAnswer 𝓤 H A)
     → Meets 𝓤 H A feed.signature (WpFn 𝓤 H (𝓣 .C) (𝓣 .Λ) code.function) (feed.spec 𝓤 H A mem′ run)
 feed-meets 𝓤 H A W mem′ run 𝓣 known known-with =
     walk-meets 𝓤 H A feed.ended stayed W (
@@ -232,4 +232,4 @@ feed-spec 𝓤 H 𝓜 𝓖 𝓡 =
     (tables 𝓤 H 𝓜 𝓡 code.env .C) (tables 𝓤 H 𝓜 𝓡 code.env .Λ) #lending·feed code.function (code.unfolded 𝓤 H 𝓜 𝓡)
     (feed-meets 𝓤 H (𝓖 .A) (givenOf 𝓤 H 𝓜 𝓖) (𝓜 .mem) (𝓡 .run) (tablesOf 𝓤 H 𝓜 (tables 𝓤 H 𝓜 𝓡 code.env))
     (cited 𝓤 H (Feed 𝓤 H (𝓖 .A) (𝓜 .mem) (𝓡 .run)) 𝓜 𝓡 code.env #service·feed on-lent-def.routine code.calls-service·feed (on-lent-thm.met 𝓤 H 𝓜 𝓖 𝓡))
-    (cited 𝓤 H (Whole To R An fedAnswer 𝓤 H (𝓖 .A)) 𝓜 𝓡 code.env #lending·fed-with with-def.routine code.calls-lending·fed-with (with-thm.met 𝓤 H 𝓜 𝓖 𝓡)))
+    (cited 𝓤 H (Whole To R An fedAnswer 𝓤 H (𝓖 .A)) 𝓜 𝓡 code.env #parts·fed-with with-def.routine code.calls-parts·fed-with (with-thm.met 𝓤 H 𝓜 𝓖 𝓡)))

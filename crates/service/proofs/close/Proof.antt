@@ -56,12 +56,12 @@ use Rattle.hub.proofs.close as by-value
 use Rattle.hub.proofs.close.Symbol as by-value-def
 use Rattle.hub.proofs.close.Symbol.{name as #hub·close}
 use Rattle.hub.proofs.close.Met as by-value-thm
-use Rattle.service.proofs.closed_record.Symbol as record-def
-use Rattle.service.proofs.closed_record.Symbol.{name as #service·closed-record}
-use Rattle.service.proofs.closed_record.Met as record-thm
-use Rattle.service.proofs.closed_told.Symbol as told-def
-use Rattle.service.proofs.closed_told.Symbol.{name as #service·closed-told}
-use Rattle.service.proofs.closed_told.Met as told-thm
+use Rattle.parts.proofs.closed_record.Symbol as record-def
+use Rattle.parts.proofs.closed_record.Symbol.{name as #parts·closed-record}
+use Rattle.parts.proofs.closed_record.Met as record-thm
+use Rattle.parts.proofs.closed_told.Symbol as told-def
+use Rattle.parts.proofs.closed_told.Symbol.{name as #parts·closed-told}
+use Rattle.parts.proofs.closed_told.Met as told-thm
 use Rattle.service.proofs.close.Key.{name as #service·close}
 use Rattle.service.proofs.close as close
 use Rattle.service.proofs.close.Statement as stated
@@ -124,7 +124,7 @@ module _ {M : Type 1} (𝓤 : URA M) (H : Heap 𝓤) (A : Atoms 𝓤) (W : Given
       move ! (2 ∷ 3 ∷ []) $ feqI ! (List Val) (vptr b o ∷ []) (vptr b o ∷ []) refl $ fjoin3 ! $ fjoin ! $
       owned ! (rowOf Hb) (Is (rowOf Hb)) (makes (Hb .type) (Hb .pure) 𝓤 H A) g _ is-g $ fjoin ! $ frame ! $ done !
 
-  module _ (C : Calls 𝓤 H) (Λ : Loops 𝓤 H) (fm : FmC 𝓤 H (W .laws) C) (known : Triple 𝓤 (C #hub·close) (Close 𝓤 H A mem′ run)) (known-record : Triple 𝓤 (C #service·closed-record) (Part An R record-of 𝓤 H A)) (known-told : Triple 𝓤 (C #service·closed-told) (Part An To closedTold 𝓤 H A)) where
+  module _ (C : Calls 𝓤 H) (Λ : Loops 𝓤 H) (fm : FmC 𝓤 H (W .laws) C) (known : Triple 𝓤 (C #hub·close) (Close 𝓤 H A mem′ run)) (known-record : Triple 𝓤 (C #parts·closed-record) (Part An R record-of 𝓤 H A)) (known-told : Triple 𝓤 (C #parts·closed-told) (Part An To closedTold 𝓤 H A)) where
     walk : ent 𝓤 (onEntry 𝓤 H A close.signature (κ, tt) (q, tt) x at) (WpFn 𝓤 H C Λ code.function (valOf Hb g ∷ vptr b o ∷ vint w8 n ∷ []) Post)
     walk =
         qed W ((‵ (flft κ q) ⊛ ‵ ftrue) ∷ ‵ (owns (rowOf Hb ∷ MutRef (named 0) κ (rowOf R) ∷ u8 ∷ []) x at) ∷ []) ∵ enter ! C Λ code.function (valOf Hb g ∷ vptr b o ∷ vint w8 n ∷ []) _ $
@@ -147,7 +147,7 @@ module _ {M : Type 1} (𝓤 : URA M) (H : Heap 𝓤) (A : Atoms 𝓤) (W : Given
         by ! (exits h′ t w (final g h n a h′ t e₁ e₂ e₃))))))))))))))
 
 close-meets : {M : Type 1} (𝓤 : URA M) (H : Heap 𝓤) (A : Atoms 𝓤) (W : Given 𝓤 H A) (mem′ : Memory → SProp 𝓤) (run : Routine → Fun 𝓤) (𝓣 : Tables 𝓤 H)
-    → Triple 𝓤 (𝓣 .C #hub·close) (Close 𝓤 H A mem′ run) → Triple 𝓤 (𝓣 .C #service·closed-record) (Part An R record-of 𝓤 H A) → Triple 𝓤 (𝓣 .C #service·closed-told) (Part An To closedTold 𝓤 H A)
+    → Triple 𝓤 (𝓣 .C #hub·close) (Close 𝓤 H A mem′ run) → Triple 𝓤 (𝓣 .C #parts·closed-record) (Part An R record-of 𝓤 H A) → Triple 𝓤 (𝓣 .C #parts·closed-told) (Part An To closedTold 𝓤 H A)
     → Meets 𝓤 H A close.signature (WpFn 𝓤 H (𝓣 .C) (𝓣 .Λ) code.function) (close.spec 𝓤 H A mem′ run)
 close-meets 𝓤 H A W mem′ run 𝓣 known known-record known-told =
     walk-meets 𝓤 H A close.ended stayed W (goes-none 𝓤 H A W 1 (λ _. rowOf Hb) yes (λ κs x f. refl), (goes-ref 𝓤 H A W 1 0 tt (plain (λ _. rowOf R)), (goes-none 𝓤 H A W 1 (λ _. u8) yes (λ κs x f. refl), tt)))
@@ -164,5 +164,5 @@ close-spec 𝓤 H 𝓜 𝓖 𝓡 =
     (tables 𝓤 H 𝓜 𝓡 code.env .C) (tables 𝓤 H 𝓜 𝓡 code.env .Λ) #service·close code.function (code.unfolded 𝓤 H 𝓜 𝓡)
     (close-meets 𝓤 H (𝓖 .A) (givenOf 𝓤 H 𝓜 𝓖) (𝓜 .mem) (𝓡 .run) (tablesOf 𝓤 H 𝓜 (tables 𝓤 H 𝓜 𝓡 code.env))
     (cited 𝓤 H (Close 𝓤 H (𝓖 .A) (𝓜 .mem) (𝓡 .run)) 𝓜 𝓡 code.env #hub·close by-value-def.routine code.calls-hub·close (by-value-thm.met 𝓤 H 𝓜 𝓖 𝓡))
-    (cited 𝓤 H (Part An R record-of 𝓤 H (𝓖 .A)) 𝓜 𝓡 code.env #service·closed-record record-def.routine code.calls-service·closed-record (record-thm.met 𝓤 H 𝓜 𝓖 𝓡))
-    (cited 𝓤 H (Part An To closedTold 𝓤 H (𝓖 .A)) 𝓜 𝓡 code.env #service·closed-told told-def.routine code.calls-service·closed-told (told-thm.met 𝓤 H 𝓜 𝓖 𝓡)))
+    (cited 𝓤 H (Part An R record-of 𝓤 H (𝓖 .A)) 𝓜 𝓡 code.env #parts·closed-record record-def.routine code.calls-parts·closed-record (record-thm.met 𝓤 H 𝓜 𝓖 𝓡))
+    (cited 𝓤 H (Part An To closedTold 𝓤 H (𝓖 .A)) 𝓜 𝓡 code.env #parts·closed-told told-def.routine code.calls-parts·closed-told (told-thm.met 𝓤 H 𝓜 𝓖 𝓡)))

@@ -61,12 +61,12 @@ use Rattle.hub.proofs.feed as by-value
 use Rattle.hub.proofs.feed.Symbol as by-value-def
 use Rattle.hub.proofs.feed.Symbol.{name as #hub·feed}
 use Rattle.hub.proofs.feed.Met as by-value-thm
-use Rattle.service.proofs.fed_record.Symbol as record-def
-use Rattle.service.proofs.fed_record.Symbol.{name as #service·fed-record}
-use Rattle.service.proofs.fed_record.Met as record-thm
-use Rattle.service.proofs.fed_told.Symbol as told-def
-use Rattle.service.proofs.fed_told.Symbol.{name as #service·fed-told}
-use Rattle.service.proofs.fed_told.Met as told-thm
+use Rattle.parts.proofs.fed_record.Symbol as record-def
+use Rattle.parts.proofs.fed_record.Symbol.{name as #parts·fed-record}
+use Rattle.parts.proofs.fed_record.Met as record-thm
+use Rattle.parts.proofs.fed_told.Symbol as told-def
+use Rattle.parts.proofs.fed_told.Symbol.{name as #parts·fed-told}
+use Rattle.parts.proofs.fed_told.Met as told-thm
 use Rattle.service.proofs.feed.Key.{name as #service·feed}
 use Rattle.service.proofs.feed as feed
 use Rattle.service.proofs.feed.Statement as stated
@@ -158,7 +158,7 @@ module _ {M : Type 1} (𝓤 : URA M) (H : Heap 𝓤) (A : Atoms 𝓤) (W : Given
       move ! (2 ∷ 3 ∷ []) $ feqI ! (List Val) (vptr b o ∷ []) (vptr b o ∷ []) refl $ fjoin3 ! $ fjoin ! $ move ! (2 ∷ 0 ∷ []) $ fjoin ! $
       owned ! (rowOf Hb) (Is (rowOf Hb)) (makes (Hb .type) (Hb .pure) 𝓤 H A) g _ is-g $ fjoin ! $ frame ! $ done !
 
-  module _ (C : Calls 𝓤 H) (Λ : Loops 𝓤 H) (fm : FmC 𝓤 H (W .laws) C) (known : Triple 𝓤 (C #hub·feed) (Feed 𝓤 H A mem′ run)) (known-record : Triple 𝓤 (C #service·fed-record) (Part An R record-of 𝓤 H A)) (known-told : Triple 𝓤 (C #service·fed-told) (Part An To fedTold 𝓤 H A)) where
+  module _ (C : Calls 𝓤 H) (Λ : Loops 𝓤 H) (fm : FmC 𝓤 H (W .laws) C) (known : Triple 𝓤 (C #hub·feed) (Feed 𝓤 H A mem′ run)) (known-record : Triple 𝓤 (C #parts·fed-record) (Part An R record-of 𝓤 H A)) (known-told : Triple 𝓤 (C #parts·fed-told) (Part An To fedTold 𝓤 H A)) where
     walk : Is (MutSlice (named 0) κ₀ u8) tb (slice tb ∷ []) → Is (ShrSlice (named 2) κ₂ u8) bs (slice bs ∷ []) → Is (MutSlice (named 3) κ₃ u8) rm (slice rm ∷ [])
         → ent 𝓤 (onEntry 𝓤 H A feed.signature (κ₀, (κ₁, (κ₂, (κ₃, tt)))) (q₀, (q₁, (q₂, (q₃, tt)))) x at) (WpFn 𝓤 H C Λ code.function (valOf Hb g ∷ slice tb ∷ vptr b o ∷ vint w8 n ∷ slice bs ∷ slice rm ∷ []) Post)
     walk is-t is-b is-r =
@@ -197,7 +197,7 @@ module _ {M : Type 1} (𝓤 : URA M) (H : Heap 𝓤) (A : Atoms 𝓤) (W : Given
         by ! (exits h′ r w (ws .1 .0) (ws .1 .1 .1 .1 .1 .0) lt lr (final g (now tb) h n (now bs) (now rm) a (ws .1 .0) (ws .1 .1 .1 .1 .1 .0) h′ r e₁ e₂ e₃))))))))))))))))))))))))
 
 feed-meets : {M : Type 1} (𝓤 : URA M) (H : Heap 𝓤) (A : Atoms 𝓤) (W : Given 𝓤 H A) (mem′ : Memory → SProp 𝓤) (run : Routine → Fun 𝓤) (𝓣 : Tables 𝓤 H)
-    → Triple 𝓤 (𝓣 .C #hub·feed) (Feed 𝓤 H A mem′ run) → Triple 𝓤 (𝓣 .C #service·fed-record) (Part An R record-of 𝓤 H A) → Triple 𝓤 (𝓣 .C #service·fed-told) (Part An To fedTold 𝓤 H A)
+    → Triple 𝓤 (𝓣 .C #hub·feed) (Feed 𝓤 H A mem′ run) → Triple 𝓤 (𝓣 .C #parts·fed-record) (Part An R record-of 𝓤 H A) → Triple 𝓤 (𝓣 .C #parts·fed-told) (Part An To fedTold 𝓤 H A)
     → Meets 𝓤 H A feed.signature (WpFn 𝓤 H (𝓣 .C) (𝓣 .Λ) code.function) (feed.spec 𝓤 H A mem′ run)
 feed-meets 𝓤 H A W mem′ run 𝓣 known known-record known-told =
     walk-meets 𝓤 H A feed.ended stayed W (
@@ -225,5 +225,5 @@ feed-spec 𝓤 H 𝓜 𝓖 𝓡 =
     (tables 𝓤 H 𝓜 𝓡 code.env .C) (tables 𝓤 H 𝓜 𝓡 code.env .Λ) #service·feed code.function (code.unfolded 𝓤 H 𝓜 𝓡)
     (feed-meets 𝓤 H (𝓖 .A) (givenOf 𝓤 H 𝓜 𝓖) (𝓜 .mem) (𝓡 .run) (tablesOf 𝓤 H 𝓜 (tables 𝓤 H 𝓜 𝓡 code.env))
     (cited 𝓤 H (Feed 𝓤 H (𝓖 .A) (𝓜 .mem) (𝓡 .run)) 𝓜 𝓡 code.env #hub·feed by-value-def.routine code.calls-hub·feed (by-value-thm.met 𝓤 H 𝓜 𝓖 𝓡))
-    (cited 𝓤 H (Part An R record-of 𝓤 H (𝓖 .A)) 𝓜 𝓡 code.env #service·fed-record record-def.routine code.calls-service·fed-record (record-thm.met 𝓤 H 𝓜 𝓖 𝓡))
-    (cited 𝓤 H (Part An To fedTold 𝓤 H (𝓖 .A)) 𝓜 𝓡 code.env #service·fed-told told-def.routine code.calls-service·fed-told (told-thm.met 𝓤 H 𝓜 𝓖 𝓡)))
+    (cited 𝓤 H (Part An R record-of 𝓤 H (𝓖 .A)) 𝓜 𝓡 code.env #parts·fed-record record-def.routine code.calls-parts·fed-record (record-thm.met 𝓤 H 𝓜 𝓖 𝓡))
+    (cited 𝓤 H (Part An To fedTold 𝓤 H (𝓖 .A)) 𝓜 𝓡 code.env #parts·fed-told told-def.routine code.calls-parts·fed-told (told-thm.met 𝓤 H 𝓜 𝓖 𝓡)))
