@@ -7,9 +7,9 @@ use lib.Dec.{eqb}
 use Rattle.text.specs.Text.{ascii, decimal, hex4}
 use Rattle.answers.specs.Bytes.{bytesWord}
 
--- room for a line in front of its bytes
+-- room for a line up to its last number
 abbrev pub headSize : ℕ
-headSize = 80
+headSize = 42
 
 -- a line that is no call; a call that was made
 unfoldable pub badLine : List ℕ

@@ -75,7 +75,7 @@ spilled-past : hasSpilled (0x00 ∷ []) 2 0xA5 ≡ false
 unfolding hasOther hasSpilled
 spilled-past = refl
 
--- the longest line in front of its bytes
-head-longest : leb (length (ascii "used 18446744073709551615 frame FFFF data 18446744073709551615 reply ")) headSize ≡ true
+-- the longest line up to its last number
+head-longest : leb (length (ascii "used 18446744073709551615 frame FFFF data ")) headSize ≡ true
 unfolding ascii
 head-longest = refl

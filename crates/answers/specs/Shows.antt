@@ -8,10 +8,7 @@ use Rattle.answers.specs.Bytes.{bytesWord}
 use Rattle.answers.specs.declared.Mode.{Mode}
 use Rattle.answers.specs.declared.Mode.the-variants as mode
 
--- room for a line in front of its bytes, and for a slot's line
-abbrev pub headSize : ℕ
-headSize = 40
-
+-- room for a slot's line
 abbrev pub slotSize : ℕ
 slotSize = 1024
 
@@ -55,7 +52,7 @@ modeWord mode.Skip2 = ascii "skip2"
 
 -- a line's reading: how it stands, and the bytes held
 unfoldable pub readingLine : ℕ → Mode → List ℕ → List ℕ
-readingLine line m held = ascii "line " ++ decimal line ++ ascii " " ++ modeWord m ++ ascii " " ++ bytesWord held ++ ascii "\n"
+readingLine line m held = ascii "line " ++ decimal line ++ (ascii " " ++ modeWord m ++ ascii " ") ++ bytesWord held ++ ascii "\n"
 
 unfoldable pub endLine : List ℕ
 endLine = ascii "end\n"

@@ -13,7 +13,7 @@ pub fn append_decimal(out: &mut [u8], at: usize, number: u64) -> usize
     ensures { λ r. ⌜ Leaves (appended (now (out .entry)) at (decimal number)) (now (out .exit)) r ⌝ }
 {
     let count = width(number);
-    if text::room(out.len(), at) < count {
+    if words::room(out.len(), at) < count {
         return at;
     }
     decimal(out, at, count, number)
@@ -23,7 +23,7 @@ pub fn append_decimal(out: &mut [u8], at: usize, number: u64) -> usize
 pub fn append_hex4(out: &mut [u8], at: usize, number: u16) -> usize
     ensures { λ r. ⌜ Leaves (appended (now (out .entry)) at (hex4 number)) (now (out .exit)) r ⌝ }
 {
-    if text::room(out.len(), at) < 4 {
+    if words::room(out.len(), at) < 4 {
         return at;
     }
     hex4(out, at, number)

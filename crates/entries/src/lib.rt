@@ -4,6 +4,12 @@
 ghost use Rattle.text.specs.Appended.{appended, Leaves};
 ghost use Rattle.answers.specs.Lines.{entryLine};
 
+const GAP: [u8; 1] = *b" ";
+
+const NOTHING: [u8; 0] = *b"";
+
+const LINE_END: [u8; 1] = *b"\n";
+
 // "CCCC L G": a command, and the least and the greatest length of its data.
 pub fn entry_line(out: &mut [u8], at: usize, command: u16, least: u8, greatest: u8) -> usize
     ensures { λ r. ⌜ Leaves (appended (now (out .entry)) at (entryLine command least greatest)) (now (out .exit)) r ⌝ }
@@ -12,10 +18,10 @@ pub fn entry_line(out: &mut [u8], at: usize, command: u16, least: u8, greatest: 
     let high = greatest as u64;
     let low_count = digits::width(low);
     let high_count = digits::width(high);
-    if text::room(out.len(), at) < 7 + low_count + high_count {
+    if words::room(out.len(), at) < 7 + low_count + high_count {
         return at;
     }
     let gap = digits::append_hex4(out, at, command);
-    let next_gap = numbered::append_numbered(out, gap, b" ", low, b"");
-    numbered::append_numbered(out, next_gap, b" ", high, b"\n")
+    let next_gap = numbered::append_numbered(out, gap, &GAP, low, &NOTHING);
+    numbered::append_numbered(out, next_gap, &GAP, high, &LINE_END)
 }

@@ -1,6 +1,6 @@
-// A line that tells some bytes in hexadecimal, appended to lent memory at a place.
+// A line that tells a number and some bytes in hexadecimal, appended to lent memory at a place.
 // It is written whole or not at all, and is the definition's to the byte: specs/Bytes.antt of `answers`.
-// It stands on the text's pieces of a line.
+// It stands on the pieces of a line: words, and numbers between them.
 ghost use Prim.Native.Nat.{_+_, _*_, _≤_};
 ghost use mathlib.Core.Path.{_≡_};
 ghost use mathlib.Core.List.{_++_};
@@ -8,37 +8,45 @@ ghost use lib.ListN.{length};
 ghost use lib.Dec.{leb};
 ghost use Rattle.store.specs.Wrote.{Wrote};
 ghost use Rattle.answers.specs.Bytes.{hex2, hexPairs, bytesWord, wordLength};
+ghost use Rattle.text.specs.Text.{decimal};
 ghost use Rattle.text.specs.Appended.{appended, Leaves};
 
-// A line that tells some bytes, between its two other parts.
-pub fn bytes_line(out: &mut [u8], at: usize, head: &[u8], bytes: &[u8], tail: &[u8]) -> usize
-    ensures { λ r. ⌜ Leaves (appended (now (out .entry)) at (now (head .entry) ++ bytesWord (now (bytes .entry)) ++ now (tail .entry))) (now (out .exit)) r ⌝ }
+// No bytes.
+const NONE: [u8; 1] = *b"-";
+
+// A number between two words, some bytes, and the line's end.
+pub fn bytes_line(
+    out: &mut [u8],
+    at: usize,
+    before: &[u8],
+    number: u64,
+    behind: &[u8],
+    bytes: &[u8],
+    end: &[u8],
+) -> usize
+    ensures { λ r. ⌜ Leaves (appended (now (out .entry)) at (now (before .entry) ++ decimal number ++ now (behind .entry) ++ bytesWord (now (bytes .entry)) ++ now (end .entry))) (now (out .exit)) r ⌝ }
 {
-    if !fits(
-        text::room(out.len(), at),
-        head.len(),
-        bytes.len(),
-        tail.len(),
-    ) {
+    let left = numbered::left(out.len(), at, before.len(), behind.len());
+    if !fits(left, digits::width(number), bytes.len(), end.len()) {
         return at;
     }
-    let word = text::append(out, at, head);
+    let word = numbered::append_numbered(out, at, before, number, behind);
     let last = put_bytes(out, word, bytes);
-    text::append(out, last, tail)
+    words::append(out, last, end)
 }
 
-// Whether a line that tells `bytes` bytes fits, with its two other parts.
-fn fits(room: usize, head: usize, bytes: usize, tail: usize) -> bool
-    ensures { λ r. ⌜ r ≡ leb (head + wordLength bytes + tail) room ⌝ }
+// Whether a number, the text of so many bytes and the line's end fit.
+fn fits(room: usize, number: usize, bytes: usize, end: usize) -> bool
+    ensures { λ r. ⌜ r ≡ leb (number + wordLength bytes + end) room ⌝ }
 {
-    if room < head {
+    if room < number {
         return false;
     }
-    let behind = room - head;
-    if behind < tail {
+    let behind = room - number;
+    if behind < end {
         return false;
     }
-    let between = behind - tail;
+    let between = behind - end;
     if bytes == 0 {
         return 1 <= between;
     }
@@ -51,7 +59,7 @@ fn put_bytes(out: &mut [u8], at: usize, bytes: &[u8]) -> usize
     ensures { λ r. ⌜ Wrote (now (out .entry)) at (bytesWord (now (bytes .entry))) (now (out .exit)) r ⌝ }
 {
     if bytes.len() == 0 {
-        return text::append(out, at, b"-");
+        return words::append(out, at, &NONE);
     }
     hex_pairs(out, at, bytes)
 }

@@ -11,34 +11,44 @@ ghost use Rattle.answers.specs.Lines.{frameLine, refusedLine, leftLine};
 // No line is longer.
 pub const LINE: usize = 40;
 
+const FRAME: [u8; 6] = *b"frame ";
+
+const DATA: [u8; 6] = *b" data ";
+
+const REFUSED: [u8; 8] = *b"refused ";
+
+const LEFT: [u8; 5] = *b"left ";
+
+const LINE_END: [u8; 1] = *b"\n";
+
 // "frame CCCC data D": a frame's command, and how many data bytes it has.
 pub fn frame_line(out: &mut [u8], at: usize, command: u16, len: usize) -> usize
     ensures { λ r. ⌜ Leaves (appended (now (out .entry)) at (frameLine command len)) (now (out .exit)) r ⌝ }
 {
     let number = len as u64;
     let count = digits::width(number);
-    if text::room(out.len(), at) < 17 + count {
+    if words::room(out.len(), at) < 17 + count {
         return at;
     }
-    let hex = text::append(out, at, b"frame ");
+    let hex = words::append(out, at, &FRAME);
     let word = digits::append_hex4(out, hex, command);
-    let digits = text::append(out, word, b" data ");
+    let digits = words::append(out, word, &DATA);
     let end = digits::append_decimal(out, digits, number);
-    text::append(out, end, b"\n")
+    words::append(out, end, &LINE_END)
 }
 
 // "refused N": a refusal's number.
 pub fn refused_line(out: &mut [u8], at: usize, number: u8) -> usize
     ensures { λ r. ⌜ Leaves (appended (now (out .entry)) at (refusedLine number)) (now (out .exit)) r ⌝ }
 {
-    number_line(out, at, b"refused ", number as u64)
+    number_line(out, at, &REFUSED, number as u64)
 }
 
 // "left N": how many bytes are left.
 pub fn left_line(out: &mut [u8], at: usize, left: u64) -> usize
     ensures { λ r. ⌜ Leaves (appended (now (out .entry)) at (leftLine left)) (now (out .exit)) r ⌝ }
 {
-    number_line(out, at, b"left ", left)
+    number_line(out, at, &LEFT, left)
 }
 
 // A short word, a number and the line's end.
@@ -47,10 +57,10 @@ fn number_line(out: &mut [u8], at: usize, word: &[u8], number: u64) -> usize
     ensures { λ r. ⌜ Leaves (appended (now (out .entry)) at (now (word .entry) ++ decimal number ++ ascii "\n")) (now (out .exit)) r ⌝ }
 {
     let count = digits::width(number);
-    if text::room(out.len(), at) < word.len() + count + 1 {
+    if words::room(out.len(), at) < word.len() + count + 1 {
         return at;
     }
-    let digits = text::append(out, at, word);
+    let digits = words::append(out, at, word);
     let last = digits::append_decimal(out, digits, number);
-    text::append(out, last, b"\n")
+    words::append(out, last, &LINE_END)
 }

@@ -20,15 +20,15 @@ pub fn append_numbered(
     if left(out.len(), at, before.len(), behind.len()) < digits::width(number) {
         return at;
     }
-    let digits = text::append(out, at, before);
+    let digits = words::append(out, at, before);
     let last = digits::append_decimal(out, digits, number);
-    text::append(out, last, behind)
+    words::append(out, last, behind)
 }
 
 // How many of `len` bytes from `at` on two words leave.
-fn left(len: usize, at: usize, before: usize, behind: usize) -> usize
+pub fn left(len: usize, at: usize, before: usize, behind: usize) -> usize
     ensures { λ r. ⌜ r ≡ len - at - before - behind ⌝ }
 {
-    let room = text::room(len, at);
-    text::room(text::room(room, before), behind)
+    let room = words::room(len, at);
+    words::room(words::room(room, before), behind)
 }

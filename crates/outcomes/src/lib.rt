@@ -4,8 +4,18 @@
 ghost use Rattle.text.specs.Appended.{appended, Leaves};
 ghost use Rattle.answers.specs.Report.{frameLine, packetLine};
 
-// No line is longer in front of its bytes.
-const HEAD: usize = 80;
+// No line is longer in front of its last number.
+const HEAD: usize = 42;
+
+const USED: [u8; 5] = *b"used ";
+
+const FRAME: [u8; 7] = *b" frame ";
+
+const DATA: [u8; 6] = *b" data ";
+
+const PACKET: [u8; 8] = *b" packet ";
+
+const REPLY: [u8; 7] = *b" reply ";
 
 // "used U frame CCCC data D reply BYTES": a frame's command, and how many data bytes it has.
 pub fn frame_line(
@@ -20,10 +30,10 @@ pub fn frame_line(
     ensures { λ r. ⌜ Leaves (appended (now (out .entry)) at (frameLine used command len (now (reply .entry)) spilled)) (now (out .exit)) r ⌝ }
 {
     let mut head = [0; HEAD];
-    let hex = numbered::append_numbered(&mut head, 0, b"used ", used as u64, b" frame ");
-    let more = digits::append_hex4(&mut head, hex, command);
-    let end = numbered::append_numbered(&mut head, more, b" data ", len as u64, b" reply ");
-    replied::reply_line(out, at, &head[0..end], reply, spilled)
+    let hex = numbered::append_numbered(&mut head, 0, &USED, used as u64, &FRAME);
+    let word = digits::append_hex4(&mut head, hex, command);
+    let end = words::append(&mut head, word, &DATA);
+    replied::reply_line(out, at, &head[0..end], len as u64, &REPLY, reply, spilled)
 }
 
 // "used U packet R reply BYTES": the number of a packet's refusal.
@@ -38,7 +48,14 @@ pub fn packet_line(
     ensures { λ r. ⌜ Leaves (appended (now (out .entry)) at (packetLine used number (now (reply .entry)) spilled)) (now (out .exit)) r ⌝ }
 {
     let mut head = [0; HEAD];
-    let cause = numbered::append_numbered(&mut head, 0, b"used ", used as u64, b"");
-    let end = numbered::append_numbered(&mut head, cause, b" packet ", number as u64, b" reply ");
-    replied::reply_line(out, at, &head[0..end], reply, spilled)
+    let end = numbered::append_numbered(&mut head, 0, &USED, used as u64, &PACKET);
+    replied::reply_line(
+        out,
+        at,
+        &head[0..end],
+        number as u64,
+        &REPLY,
+        reply,
+        spilled,
+    )
 }

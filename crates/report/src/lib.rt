@@ -5,18 +5,28 @@ ghost use mathlib.Core.Path.{_≡_};
 ghost use Rattle.text.specs.Appended.{appended, Leaves};
 ghost use Rattle.answers.specs.Report.{badLine, doneLine, refusedLine, hasSpilled};
 
+const BAD: [u8; 9] = *b"bad line\n";
+
+const DONE: [u8; 5] = *b"done\n";
+
+const REFUSED: [u8; 8] = *b"refused ";
+
+const SPILLED: [u8; 9] = *b" spilled\n";
+
+const LINE_END: [u8; 1] = *b"\n";
+
 // "bad line"
 pub fn bad_line(out: &mut [u8], at: usize) -> usize
     ensures { λ r. ⌜ Leaves (appended (now (out .entry)) at badLine) (now (out .exit)) r ⌝ }
 {
-    text::append(out, at, b"bad line\n")
+    words::append(out, at, &BAD)
 }
 
 // "done"
 pub fn done_line(out: &mut [u8], at: usize) -> usize
     ensures { λ r. ⌜ Leaves (appended (now (out .entry)) at doneLine) (now (out .exit)) r ⌝ }
 {
-    text::append(out, at, b"done\n")
+    words::append(out, at, &DONE)
 }
 
 // "refused N": the number of a call's refusal.
@@ -25,9 +35,9 @@ pub fn refused_line(out: &mut [u8], at: usize, number: u8, spilled: bool) -> usi
 {
     let refusal = number as u64;
     if spilled {
-        return numbered::append_numbered(out, at, b"refused ", refusal, b" spilled\n");
+        return numbered::append_numbered(out, at, &REFUSED, refusal, &SPILLED);
     }
-    numbered::append_numbered(out, at, b"refused ", refusal, b"\n")
+    numbered::append_numbered(out, at, &REFUSED, refusal, &LINE_END)
 }
 
 // Whether a byte from `from` on is not the filler any more.

@@ -1,1 +1,1 @@
-pub mod ShowsLaws
+pub mod Word

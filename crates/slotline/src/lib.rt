@@ -14,7 +14,15 @@ ghost use Rattle.answers.specs.Shows.{slotSize, slotLine, nodeCount, nodeWord, 
 pub const NODES: usize = 200;
 
 // No line is longer.
-const SLOT: usize = 1024;
+const SLOT_SIZE: usize = 1024;
+
+const SLOT: [u8; 5] = *b"slot ";
+
+const GAP: [u8; 1] = *b" ";
+
+const NOTHING: [u8; 0] = *b"";
+
+const LINE_END: [u8; 1] = *b"\n";
 
 // "slot S NNNN L N N N": an open session's slot, number, line and nodes, ascending.
 pub fn slot_line(
@@ -27,9 +35,9 @@ pub fn slot_line(
 ) -> usize
     ensures { λ r. ⌜ Leaves (appended (now (out .entry)) at (slotLine slot session line nodes)) (now (out .exit)) r ⌝ }
 {
-    let mut whole = [0; SLOT];
+    let mut whole = [0; SLOT_SIZE];
     let end = slot_text(&mut whole, slot, session, line, nodes);
-    text::append(out, at, &whole[0..end])
+    words::append(out, at, &whole[0..end])
 }
 
 // The whole line, at the front of some room.
@@ -38,9 +46,9 @@ fn slot_text(whole: &mut [u8], slot: u8, session: u16, line: u8, nodes: [bool; N
     ensures { λ r. ⌜ Built slotSize slotSize (slotLine slot session line nodes) (now (whole .exit)) r ⌝ }
 {
     let owner = slot_head(whole, slot, session);
-    let first = numbered::append_numbered(whole, owner, b" ", line as u64, b"");
+    let first = numbered::append_numbered(whole, owner, &GAP, line as u64, &NOTHING);
     let last = put_nodes(whole, first, nodes);
-    text::append(whole, last, b"\n")
+    words::append(whole, last, &LINE_END)
 }
 
 // The line up to its session's number.
@@ -48,7 +56,7 @@ fn slot_head(whole: &mut [u8], slot: u8, session: u16) -> usize
     requires { ⌜ length (now whole) ≡ slotSize ⌝ }
     ensures { λ r. ⌜ Built slotSize 30 (ascii "slot " ++ decimal slot ++ ascii " " ++ hex4 session) (now (whole .exit)) r ⌝ }
 {
-    let hex = numbered::append_numbered(whole, 0, b"slot ", slot as u64, b" ");
+    let hex = numbered::append_numbered(whole, 0, &SLOT, slot as u64, &GAP);
     digits::append_hex4(whole, hex, session)
 }
 
@@ -73,6 +81,6 @@ fn node_word(out: &mut [u8], at: usize, node: usize, marked: bool) -> usize
     if !marked {
         return at;
     }
-    let digits = text::append(out, at, b" ");
+    let digits = words::append(out, at, &GAP);
     digits::append_decimal(out, digits, node as u64)
 }

@@ -22,22 +22,22 @@ leb-same a b x y f g = go (leb a b) refl
         other false d = sym d
 
 returns : tie.Need-returns
-returns c = let a = c .before .args in sym (lt-leb (a .head + wordLength (a .bytes) + a .tail) (a .room) (omega arith))
+returns c = let a = c .before .args in sym (lt-leb (a .number + wordLength (a .bytes) + a .end) (a .room) (omega arith))
 
 returns-2 : tie.Need-returns-2
-returns-2 c = let a = c .before .before .args in sym (lt-leb (a .head + wordLength (a .bytes) + a .tail) (a .room) (omega arith))
+returns-2 c = let a = c .before .before .args in sym (lt-leb (a .number + wordLength (a .bytes) + a .end) (a .room) (omega arith))
 
 returns-3 : tie.Need-returns-3
 unfolding wordLength
 returns-3 c =
     let a = c .before .before .before .args in
-    rw (c .if3 .taken) (leb-same 1 (a .room - a .head - a .tail) (a .head + 1 + a .tail) (a .room) (λ h. omega arith) (λ h. omega arith))
+    rw (c .if3 .taken) (leb-same 1 (a .room - a .number - a .end) (a .number + 1 + a .end) (a .room) (λ h. omega arith) (λ h. omega arith))
 
 returns-4 : tie.Need-returns-4
 returns-4 c =
     let a = c .before .before .before .args in
     rw (wordLength-some (a .bytes) (omega arith))
-    (leb-same (a .bytes) ((a .room - a .head - a .tail) / 2) (a .head + 2 * a .bytes + a .tail) (a .room) (λ h. omega arith) (λ h. omega arith))
+    (leb-same (a .bytes) ((a .room - a .number - a .end) / 2) (a .number + 2 * a .bytes + a .end) (a .room) (λ h. omega arith) (λ h. omega arith))
 
 pub fits-spec : {M : Type 1} → statement M
 fits-spec = tie.close (tie.spec returns returns-2 returns-3 returns-4)

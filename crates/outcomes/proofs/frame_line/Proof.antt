@@ -1,4 +1,4 @@
-use Prim.Native.Nat.{ℕ, _^_, _<_}
+use Prim.Native.Nat.{ℕ}
 use mathlib.Core.List.{_++_}
 use native.Mathlib.Omega.{arith}
 use lib.ListN.{length-replicate}
@@ -11,21 +11,16 @@ use borrow.Author.Needs.{needs}
 use Rattle.outcomes.proofs.frame_line.Statement.{statement}
 use Rattle.outcomes.proofs.frame_line.Tie as tie
 
--- numbers have no more than 64 bits
-small : (c : tie.Start) → (c .args .used < 2 ^ 64) × (c .args .len < 2 ^ 64)
-small c = (omega arith, omega arith)
-
--- the line up to its bytes
-built : (c : tie.After-append-numbered2) → let a = c .before .before .before .before .before .before .before .before .before .before .before .before .before .before .args in
-    Built headSize headSize (ascii "used " ++ decimal (a .used) ++ ascii " frame " ++ hex4 (a .command) ++ ascii " data " ++ decimal (a .len) ++ ascii " reply ") (c .append-numbered2 .last .0) (c .append-numbered2 .result)
+-- the line up to its last number
+built : (c : tie.After-append) →
+    Built headSize headSize (ascii "used " ++ decimal (c .before .before .before .before .before .before .before .before .before .before .before .before .before .args .used) ++ ascii " frame " ++ hex4 (c .before .before .before .before .before .before .before .before .before .before .before .before .before .args .command) ++ ascii " data ") (c .append .last .0) (c .append .result)
 unfolding ascii
 built c =
-    let start = c .before .before .before .before .before .before .before .before .before .before .before .before .before .before in
-    let a = start .args in
+    let a = c .before .before .before .before .before .before .before .before .before .before .before .before .before .args in
     built-all (omega arith)
-    (built-numbered (ascii " data ") (a .len) (ascii " reply ") (small start .1) (omega arith) (c .append-numbered2 .ensures)
-    (built-word (hex4 (a .command)) (omega arith) (c .before .before .before .before .before .append-hex4 .ensures)
-    (built-numbered (ascii "used ") (a .used) (ascii " frame ") (small start .0) (omega arith) (c .before .before .before .before .before .before .before .before .append-numbered .ensures)
+    (built-word (ascii " data ") (omega arith) (c .append .ensures)
+    (built-word (hex4 (a .command)) (omega arith) (c .before .before .before .before .append-hex4 .ensures)
+    (built-numbered (ascii "used ") (a .used) (ascii " frame ") (omega arith) (omega arith) (c .before .before .before .before .before .before .before .append-numbered .ensures)
     (built-none _ headSize (length-replicate {A = ℕ} headSize 0)))))
 
 slice-aggregate-append-numbered : tie.Need-slice-aggregate-append-numbered
@@ -46,17 +41,14 @@ slice-aggregate-append-hex4 c = search needs
 append-hex4-requires : tie.Need-append-hex4-requires
 append-hex4-requires c κs = search needs
 
-slice-aggregate-append-numbered-4 : tie.Need-slice-aggregate-append-numbered-4
-slice-aggregate-append-numbered-4 c = search needs
+slice-aggregate-append : tie.Need-slice-aggregate-append
+slice-aggregate-append c = search needs
 
-slice-aggregate-append-numbered-5 : tie.Need-slice-aggregate-append-numbered-5
-slice-aggregate-append-numbered-5 c = search needs
+slice-aggregate-append-2 : tie.Need-slice-aggregate-append-2
+slice-aggregate-append-2 c = search needs
 
-slice-aggregate-append-numbered-6 : tie.Need-slice-aggregate-append-numbered-6
-slice-aggregate-append-numbered-6 c = search needs
-
-append-numbered-requires-2 : tie.Need-append-numbered-requires-2
-append-numbered-requires-2 c κs = search needs
+append-requires : tie.Need-append-requires
+append-requires c κs = search needs
 
 sub-reply-line : tie.Need-sub-reply-line
 sub-reply-line c = search needs
@@ -67,6 +59,9 @@ part-reply-line-start c = search needs
 part-reply-line-end : tie.Need-part-reply-line-end
 part-reply-line-end c = built-within (built (c .before .before .before))
 
+slice-aggregate-reply-line : tie.Need-slice-aggregate-reply-line
+slice-aggregate-reply-line c = search needs
+
 reply-line-requires : tie.Need-reply-line-requires
 reply-line-requires c κs = search needs
 
@@ -75,7 +70,7 @@ same-length c = search needs
 
 returns : tie.Need-returns
 unfolding frameLine ascii
-returns c = rw (built-part (built (c .before .before .before .before .before .before .before))) at (c .before .before .reply-line .ensures)
+returns c = rw (built-part (built (c .before .before .before .before .before .before .before .before))) at (c .before .before .reply-line .ensures)
 
 pub frame-line-spec : {M : Type 1} → statement M
 frame-line-spec =
@@ -87,13 +82,13 @@ frame-line-spec =
     append-numbered-requires
     slice-aggregate-append-hex4
     append-hex4-requires
-    slice-aggregate-append-numbered-4
-    slice-aggregate-append-numbered-5
-    slice-aggregate-append-numbered-6
-    append-numbered-requires-2
+    slice-aggregate-append
+    slice-aggregate-append-2
+    append-requires
     sub-reply-line
     part-reply-line-start
     part-reply-line-end
+    slice-aggregate-reply-line
     reply-line-requires
     same-length
     returns)

@@ -1,4 +1,4 @@
-use Prim.Native.Nat.{ℕ, _^_, _<_}
+use Prim.Native.Nat.{ℕ}
 use mathlib.Core.List.{_++_}
 use native.Mathlib.Omega.{arith}
 use lib.ListN.{length-replicate}
@@ -6,26 +6,19 @@ use Rattle.text.specs.Text.{ascii, decimal}
 use Rattle.text.specs.Built.{Built}
 use Rattle.text.specs.BuiltLaws.{built-none, built-all, built-within, built-part}
 use Rattle.answers.specs.Report.{headSize, packetLine}
-use Rattle.numbered.specs.NumberedLaws.{built-numbered, built-word-number}
+use Rattle.numbered.specs.NumberedLaws.{built-numbered}
 use borrow.Author.Needs.{needs}
 use Rattle.outcomes.proofs.packet_line.Statement.{statement}
 use Rattle.outcomes.proofs.packet_line.Tie as tie
 
--- numbers have no more than 64 bits
-small : (c : tie.Start) → (c .args .used < 2 ^ 64) × (c .args .number < 2 ^ 64)
-small c = (omega arith, omega arith)
-
--- the line up to its bytes
-built : (c : tie.After-append-numbered2) → let a = c .before .before .before .before .before .before .before .before .before .before .before .args in
-    Built headSize headSize (ascii "used " ++ decimal (a .used) ++ ascii " packet " ++ decimal (a .number) ++ ascii " reply ") (c .append-numbered2 .last .0) (c .append-numbered2 .result)
+-- the line up to its last number
+built : (c : tie.After-append-numbered) →
+    Built headSize headSize (ascii "used " ++ decimal (c .before .before .before .before .before .before .args .used) ++ ascii " packet ") (c .append-numbered .last .0) (c .append-numbered .result)
 unfolding ascii
 built c =
-    let start = c .before .before .before .before .before .before .before .before .before .before .before in
-    let a = start .args in
     built-all (omega arith)
-    (built-numbered (ascii " packet ") (a .number) (ascii " reply ") (small start .1) (omega arith) (c .append-numbered2 .ensures)
-    (built-word-number (ascii "used ") (a .used) (small start .0) (omega arith) (c .before .before .before .before .before .append-numbered .ensures)
-    (built-none _ headSize (length-replicate {A = ℕ} headSize 0))))
+    (built-numbered (ascii "used ") (c .before .before .before .before .before .before .args .used) (ascii " packet ") (omega arith) (omega arith) (c .append-numbered .ensures)
+    (built-none _ headSize (length-replicate {A = ℕ} headSize 0)))
 
 slice-aggregate-append-numbered : tie.Need-slice-aggregate-append-numbered
 slice-aggregate-append-numbered c = search needs
@@ -39,18 +32,6 @@ slice-aggregate-append-numbered-3 c = search needs
 append-numbered-requires : tie.Need-append-numbered-requires
 append-numbered-requires c κs = search needs
 
-slice-aggregate-append-numbered-4 : tie.Need-slice-aggregate-append-numbered-4
-slice-aggregate-append-numbered-4 c = search needs
-
-slice-aggregate-append-numbered-5 : tie.Need-slice-aggregate-append-numbered-5
-slice-aggregate-append-numbered-5 c = search needs
-
-slice-aggregate-append-numbered-6 : tie.Need-slice-aggregate-append-numbered-6
-slice-aggregate-append-numbered-6 c = search needs
-
-append-numbered-requires-2 : tie.Need-append-numbered-requires-2
-append-numbered-requires-2 c κs = search needs
-
 sub-reply-line : tie.Need-sub-reply-line
 sub-reply-line c = search needs
 
@@ -60,6 +41,9 @@ part-reply-line-start c = search needs
 part-reply-line-end : tie.Need-part-reply-line-end
 part-reply-line-end c = built-within (built (c .before .before .before))
 
+slice-aggregate-reply-line : tie.Need-slice-aggregate-reply-line
+slice-aggregate-reply-line c = search needs
+
 reply-line-requires : tie.Need-reply-line-requires
 reply-line-requires c κs = search needs
 
@@ -68,7 +52,7 @@ same-length c = search needs
 
 returns : tie.Need-returns
 unfolding packetLine ascii
-returns c = rw (built-part (built (c .before .before .before .before .before .before .before))) at (c .before .before .reply-line .ensures)
+returns c = rw (built-part (built (c .before .before .before .before .before .before .before .before))) at (c .before .before .reply-line .ensures)
 
 pub packet-line-spec : {M : Type 1} → statement M
 packet-line-spec =
@@ -78,13 +62,10 @@ packet-line-spec =
     slice-aggregate-append-numbered-2
     slice-aggregate-append-numbered-3
     append-numbered-requires
-    slice-aggregate-append-numbered-4
-    slice-aggregate-append-numbered-5
-    slice-aggregate-append-numbered-6
-    append-numbered-requires-2
     sub-reply-line
     part-reply-line-start
     part-reply-line-end
+    slice-aggregate-reply-line
     reply-line-requires
     same-length
     returns)

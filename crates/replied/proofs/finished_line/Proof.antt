@@ -1,51 +1,14 @@
-use Prim.Native.Nat.{ℕ, _^_, _<_}
-use mathlib.Core.List.{_++_}
-use native.Mathlib.Omega.{arith}
-use lib.ListN.{length-replicate}
-use Rattle.text.specs.Text.{ascii, decimal}
-use Rattle.text.specs.Built.{Built}
-use Rattle.text.specs.BuiltLaws.{built-none, built-all, built-within, built-part}
-use Rattle.answers.specs.Report.{headSize, finishedLine}
-use Rattle.numbered.specs.NumberedLaws.{built-numbered}
 use borrow.Author.Needs.{needs}
+use Rattle.text.specs.Text.{ascii}
+use Rattle.answers.specs.Report.{finishedLine}
 use Rattle.replied.proofs.finished_line.Statement.{statement}
 use Rattle.replied.proofs.finished_line.Tie as tie
 
--- numbers have no more than 64 bits
-small : (c : tie.Start) → c .args .line < 2 ^ 64
-small c = omega arith
+slice-aggregate-reply-line : tie.Need-slice-aggregate-reply-line
+slice-aggregate-reply-line c = search needs
 
--- the line up to its bytes
-built : (c : tie.After-append-numbered) → let a = c .before .before .before .before .before .before .args in
-    Built headSize headSize (ascii "finished " ++ decimal (a .line) ++ ascii " reply ") (c .append-numbered .last .0) (c .append-numbered .result)
-unfolding ascii
-built c =
-    let start = c .before .before .before .before .before .before in
-    let a = start .args in
-    built-all (omega arith)
-    (built-numbered (ascii "finished ") (a .line) (ascii " reply ") (small start) (omega arith) (c .append-numbered .ensures)
-    (built-none _ headSize (length-replicate {A = ℕ} headSize 0)))
-
-slice-aggregate-append-numbered : tie.Need-slice-aggregate-append-numbered
-slice-aggregate-append-numbered c = search needs
-
-slice-aggregate-append-numbered-2 : tie.Need-slice-aggregate-append-numbered-2
-slice-aggregate-append-numbered-2 c = search needs
-
-slice-aggregate-append-numbered-3 : tie.Need-slice-aggregate-append-numbered-3
-slice-aggregate-append-numbered-3 c = search needs
-
-append-numbered-requires : tie.Need-append-numbered-requires
-append-numbered-requires c κs = search needs
-
-sub-reply-line : tie.Need-sub-reply-line
-sub-reply-line c = search needs
-
-part-reply-line-start : tie.Need-part-reply-line-start
-part-reply-line-start c = search needs
-
-part-reply-line-end : tie.Need-part-reply-line-end
-part-reply-line-end c = built-within (built (c .before .before .before))
+slice-aggregate-reply-line-2 : tie.Need-slice-aggregate-reply-line-2
+slice-aggregate-reply-line-2 c = search needs
 
 reply-line-requires : tie.Need-reply-line-requires
 reply-line-requires c κs = search needs
@@ -55,19 +18,14 @@ same-length c = search needs
 
 returns : tie.Need-returns
 unfolding finishedLine ascii
-returns c = rw (built-part (built (c .before .before .before .before .before .before .before))) at (c .before .before .reply-line .ensures)
+returns c = c .before .before .reply-line .ensures
 
 pub finished-line-spec : {M : Type 1} → statement M
 finished-line-spec =
     tie.close
     (tie.spec
-    slice-aggregate-append-numbered
-    slice-aggregate-append-numbered-2
-    slice-aggregate-append-numbered-3
-    append-numbered-requires
-    sub-reply-line
-    part-reply-line-start
-    part-reply-line-end
+    slice-aggregate-reply-line
+    slice-aggregate-reply-line-2
     reply-line-requires
     same-length
     returns)

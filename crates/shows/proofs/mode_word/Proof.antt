@@ -1,3 +1,5 @@
+use mathlib.Core.Path.{refl}
+use native.Mathlib.Omega.{arith}
 use Rattle.text.specs.Text.{ascii}
 use Rattle.answers.specs.Shows.{modeWord}
 use borrow.Author.Needs.{needs}
@@ -18,19 +20,19 @@ enum-told-4 c = search needs
 
 returns : tie.Need-returns
 unfolding modeWord ascii
-returns c = rw (c .enum-told .given .1)
+returns c = rw (c .before .before .enum-told .given .1) (record { within = omega arith; text = refl })
 
 returns-2 : tie.Need-returns-2
 unfolding modeWord ascii
-returns-2 c = rw (c .enum-told2 .given .1)
+returns-2 c = rw (c .before .before .enum-told2 .given .1) (record { within = omega arith; text = refl })
 
 returns-3 : tie.Need-returns-3
 unfolding modeWord ascii
-returns-3 c = rw (c .enum-told3 .given .1)
+returns-3 c = rw (c .before .before .enum-told3 .given .1) (record { within = omega arith; text = refl })
 
 returns-4 : tie.Need-returns-4
 unfolding modeWord ascii
-returns-4 c = rw (c .enum-told4 .given .1)
+returns-4 c = rw (c .before .before .enum-told4 .given .1) (record { within = omega arith; text = refl })
 
 pub mode-word-spec : {M : Type 1} → statement M
 mode-word-spec =

@@ -1,6 +1,6 @@
 use native.Mathlib.Omega.{arith}
-use Rattle.text.proofs.room.Statement.{statement}
-use Rattle.text.proofs.room.Tie as tie
+use Rattle.words.proofs.room.Statement.{statement}
+use Rattle.words.proofs.room.Tie as tie
 
 returns : tie.Need-returns
 returns c = omega arith
