@@ -1,7 +1,7 @@
 -- Demand 3 is not empty: nine feeds on this hub, computed. Line 0, whose record claims 300 bytes, sends a frame, one with a byte replaced,
 -- and a third; while the damaged one comes, line 1 logs in, a feed of line 0 is refused for its room, one is empty, and line 7 is refused.
 use Prim.Native.Nat.{ℕ}
-use mathlib.Core.Path.{_≡_, refl, ap, _∙_}
+use mathlib.Core.Path.{_≡_, refl, ap, subst, _∙_}
 use mathlib.Core.Bool.{Bool, true, false}
 use mathlib.Core.List.{List, [], _∷_, _++_}
 use mathlib.Core.Option.{none, some}
@@ -18,8 +18,8 @@ use Rattle.frame.specs.Xor.{_⊕_, xorAll}
 use Rattle.directory.specs.Directory.{directory}
 use Rattle.directory.specs.Lookup as lookup
 use Rattle.nodes.specs.Table as table
-use Rattle.feeds.specs.System.{Entry, refused, told, Result, serveIf, settled, decided, call, stateFor, returned, feed, results, endState, errorReply}
-use Rattle.feeds.specs.Marks.{answers, replies, countOf, outcomeOf, counted, usedOn, marksFrom, marks, marked, unmarked, nonempty}
+use Rattle.feeds.specs.System.{Entry, refused, told, Result, serveIf, settled, decided, call, stateFor, returned, feed, results, errorReply}
+use Rattle.feeds.specs.Marks.{answers, countOf, outcomeOf, counted, usedOn, marksFrom, marks, unmarked, Isolated}
 use Rattle.feeds.specs.Sent.{Sent, enclosed, sent}
 use Rattle.feeds.specs.Service.{worldOf}
 use Rattle.feeds.specs.AnyHub.{DamageIsolated, damage-isolated}
@@ -77,19 +77,6 @@ example-marks : marks 0 1 entries (answers given) ≡ its
 unfolding entry entries given marksFrom counted outcomeOf its
 example-marks = refl
 
--- they send one error reply; without them the other feeds give the same, and the end state is the same
-example-reply : nonempty (replies (marked its given)) ≡ errorReply ∷ []
-unfolding given its marked nonempty
-example-reply = refl
-
-example-others : results hub start (unmarked its entries) ≡ unmarked its given
-unfolding overfull start worldOf entry entries given serve rules.request rules.enter rules.same rules.getNode table.inUse lookup.verdict lookup.verdictOf lookup.find directory results feed returned call decided settled serveIf stateFor scan onward step verdict inner line.step line.decoded line.close line.wrongEscape line.tooLong judge wire escape framed body frames.tooLong frames.tooShort frames.wrongProtocol frames.wrongLength frames.wrongCheck xorAll _⊕_ its unmarked
-example-others = refl
-
-example-end : endState hub start (unmarked its entries) ≡ endState hub start entries
-unfolding overfull start worldOf entry entries given serve rules.request rules.enter rules.same rules.getNode table.inUse lookup.verdict lookup.verdictOf lookup.find directory results feed returned call decided settled serveIf stateFor scan onward step verdict inner line.step line.decoded line.close line.wrongEscape line.tooLong judge wire escape framed body frames.tooLong frames.tooShort frames.wrongProtocol frames.wrongLength frames.wrongCheck xorAll _⊕_ its unmarked endState
-example-end = refl
-
 -- the frames 0001 and 0008 of line 0, with n ENDs before them
 reboot-accepted : judge (0x00 ∷ 0x03 ∷ 0x00 ∷ 0x01 ∷ 0x02 ∷ []) ≡ frame 0x0001 []
 unfolding judge xorAll _⊕_
@@ -121,3 +108,10 @@ unfolding overfull start worldOf version
 example-isolated =
     damage-isolated hub 0 start (omega arith) entries only-error-reply refl (reboot ∷ []) (version 1) (0x00 ∷ 0x03 ∷ 0x00 ∷ 0x08 ∷ 0x0A ∷ []) (sent (version 0 ∷ []))
     example-damage (ap (λ (rs : List Result). usedOn 0 entries (answers rs)) example-results ∙ example-used)
+
+-- its feeds send one error reply; without them the other feeds give the same, and the end state is the same
+example-alone : Isolated hub errorReply start entries its
+example-alone = subst (λ (m : List Bool). Isolated hub errorReply start entries m) (ap (λ (rs : List Result). marks 0 1 entries (answers rs)) example-results ∙ example-marks) (example-isolated .isolated)
+
+example-others : results hub start (unmarked its entries) ≡ unmarked its given
+example-others = example-alone .same-results ∙ ap (unmarked its) example-results

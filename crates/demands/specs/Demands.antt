@@ -4,7 +4,7 @@ use Prim.Native.Nat.{ℕ, _<_}
 use mathlib.Core.Path.{_≡_, refl, sym, ap, ap₂, _∙_}
 use mathlib.Core.List.{List, [], _∷_, _++_, map}
 use mathlib.Core.Bool.{Bool}
-use mathlib.Core.Option.{Option, none, some}
+use mathlib.Core.Option.{Option, none, some, Option·none-ne-some, Option·some-injective}
 use native.Mathlib.Omega.{arith}
 use lib.ListN.{length, take, drop, set}
 use lib.Seq.{set-getD}
@@ -133,13 +133,13 @@ pub record OneHolder : Type 0 where
 -- a refusal told is that of the answer
 finish-told : (a : Finish) (n : ℕ) → finishTells a ≡ some n → a ≡ refusedFinish n
 unfolding finishTells
-finish-told (refusedFinish k) n e = let z : k ≡ n = cc in ap refusedFinish z
-finish-told (finishedOn l k) n e = let z : _≡_ {A = ℕ} 0 1 = cc in absurd (omega arith)
+finish-told (refusedFinish k) n e = ap refusedFinish (Option·some-injective k n e)
+finish-told (finishedOn l k) n e = absurd (Option·none-ne-some n e)
 
 feed-told : (a : Answer) (n : ℕ) → feedTells a ≡ some n → a ≡ refused n
 unfolding feedTells
-feed-told (refused k) n e = let z : k ≡ n = cc in ap refused z
-feed-told (told u o k) n e = let z : _≡_ {A = ℕ} 0 1 = cc in absurd (omega arith)
+feed-told (refused k) n e = ap refused (Option·some-injective k n e)
+feed-told (told u o k) n e = absurd (Option·none-ne-some n e)
 
 -- equal parts make equal memories
 same-memory : {h k : Hub} {t q : List ℕ} {rs vs : List Reading} → h ≡ k → t ≡ q → rs ≡ vs

@@ -2,9 +2,8 @@
 use Prim.Native.Nat.{ℕ}
 use mathlib.Core.Path.{_≡_, refl, sym, ap, ap₂, _∙_}
 use mathlib.Core.List.{List, [], _∷_, map}
-use mathlib.Core.Bool.{Bool, true, false, cond, not, _&&_}
-use mathlib.Core.Option.{Option, none, some}
-use native.Mathlib.Omega.{arith}
+use mathlib.Core.Bool.{Bool, true, false, cond, not, _&&_, true≢false}
+use mathlib.Core.Option.{Option, none, some, Option·none-ne-some}
 use lib.ListN.{length, set, List·getD-map}
 use lib.Dec.{eqb, ltb}
 use Rattle.line.specs.declared.Reading.{Reading}
@@ -123,10 +122,10 @@ steps-logged l b (next {ss = ss} x rest) =
 pub steps-unprivileged : {m e : Memory} {ss : List Step} {os : List Return} (x : Steps m ss os e) → Unprivileged x → calls.Unprivileged (worldOf m) (map callOf ss)
 unfolding isPrivileged callOf worldOf entryOf
 steps-unprivileged stop u = tt
-steps-unprivileged (next (starts x) rest) u = let z : _≡_ {A = ℕ} 0 1 = cc in absurd (omega arith)
-steps-unprivileged (next (enrols x) rest) u = let z : _≡_ {A = ℕ} 0 1 = cc in absurd (omega arith)
-steps-unprivileged (next (closes x) rest) u = let z : _≡_ {A = ℕ} 0 1 = cc in absurd (omega arith)
-steps-unprivileged (next (finishes x) rest) u = let z : _≡_ {A = ℕ} 0 1 = cc in absurd (omega arith)
+steps-unprivileged (next (starts x) rest) u = absurd (true≢false (u .0))
+steps-unprivileged (next (enrols x) rest) u = absurd (true≢false (u .0))
+steps-unprivileged (next (closes x) rest) u = absurd (true≢false (u .0))
+steps-unprivileged (next (finishes x) rest) u = absurd (true≢false (u .0))
 steps-unprivileged (next (feeds {m} {g} {o} x) rest) u = (u .0, rw (← made-after (feeds {m = m} {g = g} {o = o} x)) (steps-unprivileged rest (u .1)))
 
 -- ---- any list of calls can be made
@@ -142,7 +141,7 @@ close-any h r l = go (rules.closeRefusal l) refl
     go (some n) p = (record { refusal = c .refusal; hub = c .hub; reading = r }, record { refusal = refl; hub = refl; state = rw p; kept = λ k q. refl })
     go none p = (
       record { refusal = c .refusal; hub = c .hub; reading = emptiedReading },
-      record { refusal = refl; hub = refl; state = rw p; kept = λ k q. let e = sym p ∙ sym (close-refusal h (taken r) l) ∙ q in let z : _≡_ {A = ℕ} 0 1 = cc in absurd (omega arith) },
+      record { refusal = refl; hub = refl; state = rw p; kept = λ k q. absurd (Option·none-ne-some k (sym p ∙ sym (close-refusal h (taken r) l) ∙ q)) },
     )
 
 -- any call

@@ -2,7 +2,7 @@
 use Prim.Native.Nat.{ℕ, _≤_, _<_}
 use mathlib.Core.Path.{_≡_, refl, ap, _∙_}
 use mathlib.Core.List.{List, [], _∷_}
-use mathlib.Core.Option.{Option, none, some}
+use mathlib.Core.Option.{Option, none, some, Option·none-ne-some}
 use native.Mathlib.Omega.{arith}
 use lib.ListN.{length}
 use Rattle.frame.specs.Frame as packet
@@ -15,7 +15,7 @@ use Rattle.feeds.specs.Marks.{countOf}
 -- After a call's outcome the reading is between packets.
 pub read-resets : (s : State) (w : List ℕ) (o : Outcome) → read s w .outcome ≡ some o → read s w .after ≡ emptied
 unfolding scan onward
-read-resets s [] o e = let z : _≡_ {A = ℕ} 0 1 = cc in absurd (omega arith)
+read-resets s [] o e = absurd (Option·none-ne-some o e)
 read-resets s (b ∷ w) o e = go (step s b .1) refl (read-resets (step s b .0) w o) e
   where
     go : (x : Option Outcome) → step s b .1 ≡ x → (read (step s b .0) w .outcome ≡ some o → read (step s b .0) w .after ≡ emptied)

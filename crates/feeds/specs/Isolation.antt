@@ -2,7 +2,7 @@
 use Prim.Native.Nat.{ℕ, suc, _+_, _<_}
 use mathlib.Core.Path.{_≡_, refl, sym, ap, _∙_, subst}
 use mathlib.Core.Bool.{Bool, true, false, cond}
-use mathlib.Core.List.{List, [], _∷_, _++_}
+use mathlib.Core.List.{List, [], _∷_, _++_, nil≢cons}
 use mathlib.Core.Option.{Option, none, some}
 use native.Mathlib.Omega.{arith}
 use lib.ListN.{length, set}
@@ -22,8 +22,8 @@ same-cond false a = refl
 
 -- No list is empty and has an element.
 empty : {A : Type 0} {P : Type 0} (f : List A) (a : A) (b : List A) → [] ≡ f ++ a ∷ b → P
-empty [] a b e = let z : _≡_ {A = ℕ} 0 1 = cc in absurd (omega arith)
-empty (x ∷ f) a b e = let z : _≡_ {A = ℕ} 0 1 = cc in absurd (omega arith)
+empty [] a b e = absurd (nil≢cons e)
+empty (x ∷ f) a b e = absurd (nil≢cons e)
 
 -- The outcome stays behind.
 counted-past : {k n : ℕ} → k < n → (o : Option Outcome) → k < counted n o

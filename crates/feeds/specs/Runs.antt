@@ -3,8 +3,7 @@ use Prim.Native.Nat.{ℕ, _-_}
 use mathlib.Core.Path.{_≡_, refl, sym, ap, _∙_}
 use mathlib.Core.Bool.{Bool}
 use mathlib.Core.List.{List, [], _∷_, _++_, map, append-nil, flatten}
-use mathlib.Core.Option.{Option, none, some}
-use native.Mathlib.Omega.{arith}
+use mathlib.Core.Option.{Option, none, some, Option·none-ne-some}
 use lib.ListN.{length, drop, replicate, length-replicate}
 use Rattle.line.specs.declared.Reading.{Reading}
 use Rattle.frame.specs.Frame.{Outcome}
@@ -19,10 +18,6 @@ use Rattle.feeds.specs.ServiceLaws.{map-unmarked, run-answers}
 use Rattle.feeds.specs.Reach.{pieces-every, pieces-used}
 use Rattle.feeds.specs.Demand3.{Without}
 use Rattle.feeds.specs.CallLaws.{call-refused, call-read, answer-refused}
-
--- None is not some.
-none-some : {A : Type 0} {P : Type 0} {o : Option A} {a : A} → o ≡ none → o ≡ some a → P
-none-some p q = let z : _≡_ {A = ℕ} 0 1 = cc in absurd (omega arith)
 
 -- What is lent for an entry.
 lentOf : Entry → Lent
@@ -61,7 +56,7 @@ module _ {H : System} where
               state = taken-record s (read-held (taken r) bytes (taken-held r)) ∙ ap (λ (y : Called H). y .state) (sym e);
               answer = refl;
               room = refl;
-              kept = λ k q. none-some p (answer-refused H h t (taken r) l bytes (length room) k q);
+              kept = λ k q. absurd (Option·none-ne-some k (sym p ∙ answer-refused H h t (taken r) l bytes (length room) k q));
             },
           )
 

@@ -2,7 +2,7 @@
 use Prim.Native.Nat.{ℕ, _≤_, _<_}
 use mathlib.Core.Path.{_≡_, refl, sym, ap, _∙_}
 use mathlib.Core.List.{List, [], _∷_, _++_}
-use mathlib.Core.Option.{Option, none, some}
+use mathlib.Core.Option.{Option, none, some, Option·none-ne-some}
 use mathlib.Core.Bool.{Bool, true, false}
 use native.Mathlib.Omega.{arith}
 use Rattle.frame.specs.Frame.{refused}
@@ -26,7 +26,7 @@ start-refused h t p n e = go (startRefusal t p) e
   where
     go : (o : Option ℕ) → startBy o h t p .refusal ≡ some n → startBy o h t p ≡ record { refusal = some n; hub = h; table = t }
     go (some m) e = ap (λ (x : Option ℕ). record { refusal = x; hub = h; table = t }) e
-    go none e = let z : _≡_ {A = ℕ} 0 1 = cc in absurd (omega arith)
+    go none e = absurd (Option·none-ne-some n e)
 
 -- enrol gives back the table
 pub enrol-refused : (t : List ℕ) (k type n : ℕ) → enrol t k type .refusal ≡ some n → enrol t k type ≡ record { refusal = some n; table = t }
@@ -34,7 +34,7 @@ enrol-refused t k type n e = go (enrolRefusal t k) e
   where
     go : (o : Option ℕ) → enrolBy o t k type .refusal ≡ some n → enrolBy o t k type ≡ record { refusal = some n; table = t }
     go (some m) e = ap (λ (x : Option ℕ). record { refusal = x; table = t }) e
-    go none e = let z : _≡_ {A = ℕ} 0 1 = cc in absurd (omega arith)
+    go none e = absurd (Option·none-ne-some n e)
 
 -- closing a line gives back the hub and the reading state
 pub close-refused : (h : Hub) (s : State) (l n : ℕ) → close h s l .refusal ≡ some n → close h s l ≡ record { refusal = some n; hub = h; state = s }
@@ -42,7 +42,7 @@ close-refused h s l n e = go (closeRefusal l) e
   where
     go : (o : Option ℕ) → closeBy o h s l .refusal ≡ some n → closeBy o h s l ≡ record { refusal = some n; hub = h; state = s }
     go (some m) e = ap (λ (x : Option ℕ). record { refusal = x; hub = h; state = s }) e
-    go none e = let z : _≡_ {A = ℕ} 0 1 = cc in absurd (omega arith)
+    go none e = absurd (Option·none-ne-some n e)
 
 -- finish gives back the hub, and writes nothing
 pub finish-refused : (h : Hub) (x room n : ℕ) → finish h x room .answer ≡ refusedFinish n → finish h x room ≡ record { answer = refusedFinish n; hub = h; reply = [] }

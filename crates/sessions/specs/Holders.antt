@@ -2,7 +2,7 @@
 use Prim.Native.Nat.{ℕ, zero, suc, _+_, _≤_}
 use mathlib.Core.Path.{_≡_, refl, ap, _∙_}
 use mathlib.Core.List.{List, [], _∷_}
-use mathlib.Core.Bool.{Bool, true, false, cond, not}
+use mathlib.Core.Bool.{Bool, true, false, cond, not, true≢false, false≢true}
 use mathlib.Core.Option.{Option, none, some}
 use native.Mathlib.Omega.{arith}
 use lib.ListN.{set, getD, replicate}
@@ -48,7 +48,7 @@ none-holds n [] e = refl
 none-holds n (s ∷ ss) e = go (holds n s) (none-holds n ss) e
   where
     go : (b : Bool) → (any (holds n) ss ≡ false → holders n ss ≡ 0) → cond b true (any (holds n) ss) ≡ false → count b + holders n ss ≡ 0
-    go true r e = let z : _≡_ {A = ℕ} 0 1 = cc in absurd (omega arith)
+    go true r e = absurd (true≢false e)
     go false r e = omega (arith, r e)
 
 -- a node marked was marked before or is among the indices
@@ -59,7 +59,7 @@ marked-member n (m ∷ ns) ms e = go (eqb n m) refl (marked-member n ns (set ms 
   where
     go : (b : Bool) → eqb n m ≡ b → (member n ns ≡ false → getD (marked (set ms m true) ns) n false ≡ getD (set ms m true) n false)
         → cond b true (member n ns) ≡ false → getD (marked (set ms m true) ns) n false ≡ getD ms n false
-    go true x r e = let z : _≡_ {A = ℕ} 0 1 = cc in absurd (omega arith)
+    go true x r e = absurd (true≢false e)
     go false x r e = r e ∙ getD-set-other ms m n true false (λ y. eqb-false n m x y)
 
 unmarked : (k n : ℕ) → getD (replicate k false) n false ≡ false
@@ -74,12 +74,12 @@ not-held n l r e = marked-member n (named r) (replicate targetCount false) e ∙
 -- a test that fails for a whole list fails for each of its members
 fails-each : (p : ℕ → Bool) (ns : List ℕ) (n : ℕ) → any p ns ≡ false → member n ns ≡ true → p n ≡ false
 unfolding any
-fails-each p [] n e x = let z : _≡_ {A = ℕ} 0 1 = cc in absurd (omega arith)
+fails-each p [] n e x = absurd (false≢true x)
 fails-each p (m ∷ ns) n e x = go (p m) (eqb n m) refl refl (fails-each p ns n) e x
   where
     go : (a b : Bool) → p m ≡ a → eqb n m ≡ b → (any p ns ≡ false → member n ns ≡ true → p n ≡ false)
         → cond a true (any p ns) ≡ false → cond b true (member n ns) ≡ true → p n ≡ false
-    go true b u v r e x = let z : _≡_ {A = ℕ} 0 1 = cc in absurd (omega arith)
+    go true b u v r e x = absurd (true≢false e)
     go false true u v r e x = ap p (eqb-true n m v) ∙ u
     go false false u v r e x = r e x
 

@@ -2,7 +2,7 @@
 use Prim.Native.Nat.{ℕ, zero, suc, _+_, _<_, _≤_}
 use mathlib.Core.Path.{_≡_, refl, sym, ap, _∙_}
 use mathlib.Core.List.{List, [], _∷_}
-use mathlib.Core.Bool.{Bool, true, false, cond, not, _&&_}
+use mathlib.Core.Bool.{Bool, true, false, cond, not, _&&_, true≢false, false≢true}
 use mathlib.Core.Option.{Option, none, some}
 use native.Mathlib.Numerals.{add-one}
 use native.Mathlib.Omega.{arith}
@@ -72,8 +72,8 @@ legal-count t r e = go (leb 1 (r .count)) (leb (r .count) maxIndices) _ refl e
   where
     go : (a b x : Bool) → leb (r .count) maxIndices ≡ b → (a && (b && x)) ≡ true → r .count ≤ maxIndices
     go true true x h e = leb-true (r .count) maxIndices h
-    go true false x h e = let z : _≡_ {A = ℕ} 0 1 = cc in absurd (omega arith)
-    go false b x h e = let z : _≡_ {A = ℕ} 0 1 = cc in absurd (omega arith)
+    go true false x h e = absurd (false≢true e)
+    go false b x h e = absurd (false≢true e)
 
 -- which numbers were seen counts, and not in which order
 seen-same : (t ns a b : List ℕ) → ((n : ℕ) → member n a ≡ member n b) → targetsLegal t a ns ≡ targetsLegal t b ns
@@ -93,9 +93,9 @@ module _ (t is : List ℕ) (i : ℕ) (h : i < length is) where
     where
       go : (a b c x : Bool) → (a && (b && c)) ≡ true → (a && (b && (c && x))) ≡ x
       go true true true x e = refl
-      go true true false x e = let z : _≡_ {A = ℕ} 0 1 = cc in absurd (omega arith)
-      go true false c x e = let z : _≡_ {A = ℕ} 0 1 = cc in absurd (omega arith)
-      go false b c x e = let z : _≡_ {A = ℕ} 0 1 = cc in absurd (omega arith)
+      go true true false x e = absurd (false≢true e)
+      go true false c x e = absurd (false≢true e)
+      go false b c x e = absurd (false≢true e)
 
   pub targets-off : (ltb (getD is i 0) targetCount && (inUse t (getD is i 0) && not (member (getD is i 0) (take i is)))) ≡ false
       → targetsLegal t (take i is) (drop i is) ≡ false
@@ -105,7 +105,7 @@ module _ (t is : List ℕ) (i : ℕ) (h : i < length is) where
       (go (ltb (getD is i 0) targetCount) (inUse t (getD is i 0)) (not (member (getD is i 0) (take i is))) _ e)
     where
       go : (a b c x : Bool) → (a && (b && c)) ≡ false → (a && (b && (c && x))) ≡ false
-      go true true true x e = let z : _≡_ {A = ℕ} 0 1 = cc in absurd (omega arith)
+      go true true true x e = absurd (true≢false e)
       go true true false x e = refl
       go true false c x e = refl
       go false b c x e = refl
