@@ -2,6 +2,7 @@ pub mod Bytes
 pub mod Lines
 pub mod Report
 pub mod Shows
+pub mod BytesLaws
 pub mod LinesLaws
 pub mod BytesVectors
 pub mod LinesVectors

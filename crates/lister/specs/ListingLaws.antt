@@ -24,13 +24,13 @@ use Rattle.frame.specs.Frame.{Outcome, refusal}
 use Rattle.frame.specs.Reading.{END, State, Scan, takenAs, also, outcomes, final, step, read}
 use Rattle.frame.specs.ReadingLaws.{outcomes-append, final-append, Tells, scan-tells, used-some}
 use Rattle.frame.specs.Answers.{told, Within, seen, answerOf, Answers}
-use Rattle.answers.specs.Lines.{refusedLine, LINE}
+use Rattle.answers.specs.Lines.{refusedLine, leftLine, LINE}
 use Rattle.answers.specs.LinesLaws.{frameLine-short, refusedLine-short}
 use Rattle.text.specs.Appended.{Memory, appended, Leaves}
 use Rattle.text.specs.AppendedLaws.{leaves-wrote}
 use Rattle.lister.specs.declared.Listed.{Listed}
 use Rattle.lister.specs.Listing.{outcomeLine, lines, leftAfter}
-use Rattle.lister.specs.Lists.{givenLine, listedOf, Lists}
+use Rattle.lister.specs.Lists.{givenLine, listedOf, Lists, LastLine}
 
 -- ---- lines
 
@@ -138,6 +138,10 @@ leaves-nothing l at = go (leb (at + 0) (length l))
     go : (t : Bool) → Leaves (cond {A = Memory} t (record { bytes = l; place = at + 0 }) (record { bytes = l; place = at })) l at
     go true = record { bytes = refl; place = omega arith }
     go false = record { bytes = refl; place = refl }
+
+-- the last line stands at the front, where there is room for it
+pub last-line-front : {k n : ℕ} {before after : List ℕ} → length (leftLine k) ≤ length before → LastLine k before after n → after ≡ leftLine k ++ drop n before
+last-line-front h x = front-to (leaves-wrote (omega arith) (x .line)) (x .within)
 
 -- ---- on the way through the bytes
 

@@ -65,7 +65,7 @@ leading-space : map parse (ascii " show" ∷ ascii " close 1" ∷ []) ≡ none �
 unfolding words ascii same digitsFrom isPlain number numberUpTo hexValue allHex isBytes pairs bytes tableOf startOf enrolOf feedOf closeOf finishOf showOf called callOf parse
 leading-space = refl
 
-trailing-space : map parse (ascii "show " ∷ ascii "close 1 " ∷ ascii "start - " ∷ ascii "enrol 1 2 " ∷ []) ≡ none ∷ none ∷ none ∷ none ∷ []
+trailing-space : map parse (ascii "show " ∷ ascii "close 1 " ∷ ascii "start " ∷ ascii "start - " ∷ ascii "enrol 1 2 " ∷ []) ≡ none ∷ none ∷ none ∷ none ∷ none ∷ []
 unfolding words ascii same digitsFrom isPlain number numberUpTo hexValue allHex isBytes pairs bytes tableOf startOf enrolOf feedOf closeOf finishOf showOf called callOf parse
 trailing-space = refl
 

@@ -12,7 +12,7 @@ use Rattle.text.specs.Text.{decimal}
 use Rattle.text.specs.AppendedLaws.{leaves-whole, leaves-wrote, leaves-none}
 use Rattle.text.specs.DecimalLaws.{decimal-some}
 use Rattle.answers.specs.Bytes.{bytesWord, wordLength}
-use Rattle.hexes.specs.BytesLaws.{length-bytesWord}
+use Rattle.answers.specs.BytesLaws.{length-bytesWord}
 use Rattle.hexes.proofs.bytes_line.Statement.{statement}
 use Rattle.hexes.proofs.bytes_line.Tie as tie
 

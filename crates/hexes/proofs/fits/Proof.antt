@@ -5,7 +5,7 @@ use native.Mathlib.Omega.{arith}
 use lib.Dec.{leb}
 use borrow.Author.Tests.{lt-leb, le-leb, leb-true, leb-false}
 use Rattle.answers.specs.Bytes.{wordLength}
-use Rattle.hexes.specs.BytesLaws.{wordLength-some}
+use Rattle.answers.specs.BytesLaws.{wordLength-some}
 use Rattle.hexes.proofs.fits.Statement.{statement}
 use Rattle.hexes.proofs.fits.Tie as tie
 

@@ -5,7 +5,7 @@ use lib.Seq.{take-all, length-take-le}
 use Rattle.store.specs.Wrote.{Wrote}
 use Rattle.store.specs.WroteLaws.{none, then, kept}
 use Rattle.answers.specs.Bytes.{hexPairs}
-use Rattle.hexes.specs.BytesLaws.{hexPairs-more, length-hexPairs}
+use Rattle.answers.specs.BytesLaws.{hexPairs-more, length-hexPairs}
 use Rattle.hexes.proofs.hex_pairs.Statement.{statement}
 use Rattle.hexes.proofs.hex_pairs.Tie as tie
 

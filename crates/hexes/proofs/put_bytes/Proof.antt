@@ -5,7 +5,7 @@ use lib.ListN.{length}
 use borrow.Author.Needs.{needs}
 use Rattle.text.specs.Text.{ascii}
 use Rattle.text.specs.AppendedLaws.{leaves-wrote}
-use Rattle.hexes.specs.BytesLaws.{length-bytesWord, bytesWord-none, bytesWord-some, length-hexPairs, wordLength-least}
+use Rattle.answers.specs.BytesLaws.{length-bytesWord, bytesWord-none, bytesWord-some, length-hexPairs, wordLength-least}
 use Rattle.hexes.proofs.put_bytes.Statement.{statement}
 use Rattle.hexes.proofs.put_bytes.Tie as tie
 
