@@ -1,4 +1,4 @@
--- What the code answers: causes of refusal, answers in parts, and what is shown of a packet.
+-- What the code's answers come to: causes of refusal, answers in parts, and what is shown of a packet.
 use Prim.Native.Nat.{ℕ, _-_, _≤_}
 use mathlib.Core.Path.{_≡_, refl, sym, ap, _∙_}
 use mathlib.Core.List.{List}

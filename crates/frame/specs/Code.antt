@@ -34,5 +34,5 @@ pub record Judging (bs : List ℕ) (g : Got) (r : Outcome) : Type 0 where
   pub full : length bs ≡ limit
 
 -- `head_of` of the crate `writer`: the bytes before n data bytes
-abbrev pub header : ℕ → ℕ → List ℕ
-header c n = 0 ∷ (n + 3) ∷ c / 256 ∷ c % 256 ∷ []
+abbrev pub headOf : ℕ → ℕ → List ℕ
+headOf c n = 0 ∷ (n + 3) ∷ c / 256 ∷ c % 256 ∷ []

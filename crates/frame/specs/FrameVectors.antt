@@ -1,4 +1,4 @@
--- The frame layer's rules on bytes: the packets of document 01's P3 to P6 and P8 to P11 judged, and frames written at the edges of room and data.
+-- The frame layer's rules on bytes: document 01's packets judged and shown, and frames written at the edges of room and data.
 use Prim.Native.Nat.{ℕ, _+_}
 use mathlib.Core.Path.{_≡_, refl}
 use mathlib.Core.List.{List, [], _∷_, _++_, map}
@@ -10,6 +10,7 @@ use Rattle.frame.specs.Frame.{escape, frame, refused, body, framed, wire
 use Rattle.frame.specs.View.{shownCommand}
 use Rattle.frame.specs.Writing.{write, writeAt}
 
+-- two of the packets
 p4 : List ℕ
 p4 = 0x00 ∷ 0x05 ∷ 0x02 ∷ 0x06 ∷ 0xC0 ∷ 0x00 ∷ 0xC1 ∷ []
 
@@ -42,32 +43,32 @@ unfolding p11 judge xorAll _⊕_ tooShort wrongProtocol wrongLength wrongCheck
 refusals = refl
 
 -- P4 and P11, shown
-shown :
-    map (λ (h : List ℕ). shownCommand (judge h)) (p4 ∷ p11 ∷ []) ≡ 0x0206 ∷ 0 ∷ []
+shown : map (λ (h : List ℕ). shownCommand (judge h)) (p4 ∷ p11 ∷ []) ≡ 0x0206 ∷ 0 ∷ []
 unfolding p4 p11 judge xorAll _⊕_ wrongCheck
 shown = refl
 
--- the wire forms of P3 to P6; a length byte C0 is escaped too, so that of 189 zeros takes 8 bytes more
-p3 : List ℕ
-p3 = 0xC0 ∷ 0x00 ∷ 0x03 ∷ 0x00 ∷ 0x01 ∷ 0x02 ∷ 0xC0 ∷ []
+-- the wire forms of P3 to P6
+p3-sent : List ℕ
+p3-sent = 0xC0 ∷ 0x00 ∷ 0x03 ∷ 0x00 ∷ 0x01 ∷ 0x02 ∷ 0xC0 ∷ []
 
 wires :
     wire 0x0001 [] ∷ map (wire 0x0206) ((0xC0 ∷ 0x00 ∷ []) ∷ (0xC1 ∷ 0x00 ∷ []) ∷ (0xDB ∷ 0x00 ∷ []) ∷ [])
-    ≡ p3
+    ≡ p3-sent
     ∷ (0xC0 ∷ 0x00 ∷ 0x05 ∷ 0x02 ∷ 0x06 ∷ 0xDB ∷ 0xDC ∷ 0x00 ∷ 0xC1 ∷ 0xC0 ∷ [])
     ∷ (0xC0 ∷ 0x00 ∷ 0x05 ∷ 0x02 ∷ 0x06 ∷ 0xC1 ∷ 0x00 ∷ 0xDB ∷ 0xDC ∷ 0xC0 ∷ [])
     ∷ (0xC0 ∷ 0x00 ∷ 0x05 ∷ 0x02 ∷ 0x06 ∷ 0xDB ∷ 0xDD ∷ 0x00 ∷ 0xDA ∷ 0xC0 ∷ [])
     ∷ []
-unfolding p3 wire framed body escape xorAll _⊕_
+unfolding p3-sent wire framed body escape xorAll _⊕_
 wires = refl
 
+-- a length byte C0 is escaped: the wire form of 189 data bytes takes 8 more
 length-escaped : length (wire 0x0001 (replicate 189 0)) ≡ 189 + 8
 unfolding wire framed body escape xorAll _⊕_
 length-escaped = refl
 
 -- P3 written: room of 512 bytes is taken, one of 511 is not, and the bytes behind the wire form stay
-room-512 : write (replicate 512 7) 0x0001 [] ≡ record { answer = Length 7; room = p3 ++ replicate 505 7 }
-unfolding p3 write wire framed body escape xorAll _⊕_
+room-512 : write (replicate 512 7) 0x0001 [] ≡ record { answer = Length 7; room = p3-sent ++ replicate 505 7 }
+unfolding p3-sent write wire framed body escape xorAll _⊕_
 room-512 = refl
 
 room-511 : write (replicate 511 7) 0x0001 [] ≡ record { answer = ShortRoom; room = replicate 511 7 }
@@ -84,8 +85,8 @@ unfolding write
 data-251 = refl
 
 -- P3 written from the place 1 on: it fits where 7 bytes are left, and no fewer
-fits : writeAt (replicate 8 7) 1 0x0001 [] ≡ record { answer = at.UpTo 8; room = 7 ∷ p3 }
-unfolding p3 writeAt wire framed body escape xorAll _⊕_
+fits : writeAt (replicate 8 7) 1 0x0001 [] ≡ record { answer = at.UpTo 8; room = 7 ∷ p3-sent }
+unfolding p3-sent writeAt wire framed body escape xorAll _⊕_
 fits = refl
 
 no-fit : writeAt (replicate 7 7) 1 0x0001 [] ≡ record { answer = at.NoFit; room = replicate 7 7 }

@@ -15,34 +15,34 @@ use Rattle.frame.specs.Frame.{maxData, body, framed, wire}
 use Rattle.frame.specs.declared.Written.{Written}
 use Rattle.frame.specs.declared.Written.the-variants as written
 use Rattle.frame.specs.Writing.{minRoom, refusalOf, Wire, write}
-use Rattle.frame.specs.Code.{header}
+use Rattle.frame.specs.Code.{headOf}
 
--- the check byte, from the header's and the data's
+-- the check byte, from the head's and the data's
 abbrev pub check : ℕ → List ℕ → ℕ
-check c d = xorAll (header c (length d)) ⊕ xorAll d
+check c d = xorAll (headOf c (length d)) ⊕ xorAll d
 
-body-parts : (c : ℕ) (d : List ℕ) → body c d ≡ header c (length d) ++ d
+body-parts : (c : ℕ) (d : List ℕ) → body c d ≡ headOf c (length d) ++ d
 unfolding body
 body-parts c d = refl
 
-framed-parts : (c : ℕ) (d : List ℕ) → framed c d ≡ header c (length d) ++ d ++ check c d ∷ []
+framed-parts : (c : ℕ) (d : List ℕ) → framed c d ≡ headOf c (length d) ++ d ++ check c d ∷ []
 unfolding framed
 framed-parts c d = rw (body-parts, xorAll-append)
 
 -- the parts of a wire form, in the order in which they are written
 pub wire-parts : (c : ℕ) (d : List ℕ)
-    → wire c d ≡ (END ∷ []) ++ escape (header c (length d)) ++ escape d ++ escape (check c d ∷ []) ++ END ∷ []
+    → wire c d ≡ (END ∷ []) ++ escape (headOf c (length d)) ++ escape d ++ escape (check c d ∷ []) ++ END ∷ []
 unfolding wire
 wire-parts c d = simp (framed-parts, escape-append, append-assoc)
 
 pub wire-length : (c : ℕ) (d : List ℕ)
-    → length (wire c d) ≡ length (escape (header c (length d))) + length (escape d) + length (escape (check c d ∷ [])) + 2
+    → length (wire c d) ≡ length (escape (headOf c (length d))) + length (escape d) + length (escape (check c d ∷ [])) + 2
 wire-length c d = ap length (wire-parts c d) ∙ simp length-append (omega arith)
 
 -- each byte of a frame takes two at the most
 pub wire-short : (c : ℕ) (d : List ℕ) → length (wire c d) ≤ 2 * length d + 12
 wire-short c d =
-    omega (arith, wire-length c d, escape-short (header c (length d)), escape-short d, escape-short (check c d ∷ []))
+    omega (arith, wire-length c d, escape-short (headOf c (length d)), escape-short d, escape-short (check c d ∷ []))
 
 -- the longest wire form fits the least room
 pub wire-fits : (c : ℕ) (d : List ℕ) → length d ≤ maxData → length (wire c d) ≤ minRoom

@@ -1,5 +1,6 @@
 // The frame layer's types and definitions: packets to frames and back (document 01, "From packet to frame").
-// The rules are specs/Frame.antt, specs/Reading.antt, specs/Writing.antt and specs/View.antt. The code is in `checks`, `reader`, `view` and `writer`.
+// The rules are specs/Frame.antt, specs/Reading.antt, specs/Writing.antt and specs/View.antt.
+// The code is in `checks`, `reader`, `lent`, `view` and `writer`.
 // It stands on what the line layer states.
 use line::Place;
 use line::Reading;

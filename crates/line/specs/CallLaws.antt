@@ -1,48 +1,15 @@
--- What the code answers: records and their states, answers in parts, and calls one after another.
+-- Calls one after another, said of what the code answers.
 use Prim.Native.Nat.{ℕ, _+_, _-_, _≤_, _<_}
 use mathlib.Core.Path.{_≡_, refl, sym, ap, _∙_}
 use mathlib.Core.List.{List, [], _++_}
 use native.Mathlib.Omega.{arith}
 use lib.ListN.{length, take, drop, length-take, length-drop}
-use lib.Seq.{length-take-le}
-use Rattle.line.specs.declared.Mode.{Mode}
-use Rattle.line.specs.declared.Mode.the-variants.{Plain, Escaped, Skipping}
 use Rattle.line.specs.declared.Reading.{Reading}
 use Rattle.line.specs.declared.Answer.{Answer}
-use Rattle.line.specs.declared.Told.{Told}
 use Rattle.line.specs.Scan.{also, Scan, outcomes, final}
 use Rattle.line.specs.ScanLaws.{also-append, outcomes-append, final-append, Tells, scan-tells, used-within, used-some}
-use Rattle.line.specs.Reader.{State, emptied, held, Outcome, step, read}
-use Rattle.line.specs.Answers.{at, takenAs, taken, emptiedReading, told, seen, Clear, Answers, answerOf, Calls, done, next}
-use Rattle.line.specs.Code.{placeOf}
-use Rattle.line.specs.Lent.{packetTold, ReadsPacket}
-
--- the emptied record is taken as the state between packets
-pub emptied-taken : taken emptiedReading ≡ emptied
-emptied-taken = refl
-
--- a record is taken by its bytes and its place
-pub place-taken : (r : Reading) → takenAs (r .bytes) (placeOf r .count) (placeOf r .mode) ≡ taken r
-place-taken r = refl
-
--- a record that claims no byte while it skips claims as many as its state holds
-pub clear-held : (bs : List ℕ) (n : ℕ) (m : Mode) → n ≤ length bs → Clear m n → length (held (at (take n bs) m)) ≡ n
-clear-held bs n Plain h x = length-take-le n bs h
-clear-held bs n Escaped h x = length-take-le n bs h
-clear-held bs n (Skipping f) h x = sym x
-
--- ---- an answer in parts
-
--- bytes that lie apart from an answer tell its packet and its state
-pub apart-seen : (bs : List ℕ) (t : Told)
-    → seen (answerOf bs t) ≡ record { used = t .used; outcome = told (t .outcome) bs; after = takenAs bs (t .place .count) (t .place .mode) }
-apart-seen bs t = refl
-
--- a call by value whose record is put back is a call on the lent record
-pub packet-lent : (s : Reading) (w : List ℕ) (a : Answer) → Answers (read (taken s) w) a → ReadsPacket s w (packetTold a) (a .reading)
-packet-lent s w a x = x
-
--- ---- calls one after another
+use Rattle.line.specs.Reader.{State, Outcome, step, read}
+use Rattle.line.specs.Answers.{taken, told, seen, Answers, Calls, done, next}
 
 -- an answer tells what the bytes that it used give
 pub answer-tells : (s : Reading) (w : List ℕ) (r : Answer) → Answers (read (taken s) w) r → Tells step (taken s) w (seen r)

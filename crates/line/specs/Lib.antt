@@ -11,5 +11,6 @@ pub mod ScanLaws
 pub mod ReaderLaws
 pub mod PieceLaws
 pub mod ByPieces
+pub mod AnswerLaws
 pub mod CallLaws
 pub mod HeldLaws

@@ -1,5 +1,6 @@
 // The line layer's types and definitions: wire bytes to packets (document 01, "From wire to packet").
-// The rules are specs/Reader.antt; what a reader promises is specs/Answers.antt. The code is in `escape` and `wire`.
+// The rules are specs/Reader.antt; what a reader promises is specs/Answers.antt, and on a lent record specs/Lent.antt.
+// The code is in `escape`, `wire` and `lent`.
 // It stands on nothing.
 
 // RFC 1055.

@@ -7,7 +7,7 @@ ghost use mathlib.Core.List.{[], _∷_};
 ghost use lib.ListN.{length};
 ghost use Rattle.store.specs.Wrote.{Wrote};
 ghost use Rattle.frame.specs.Frame.{maxData, escape, wire};
-ghost use Rattle.frame.specs.Code.{header};
+ghost use Rattle.frame.specs.Code.{headOf};
 ghost use Rattle.frame.specs.Writing.{write, writeAt, Writes};
 use frame::DATA;
 use frame::Written;
@@ -72,7 +72,7 @@ fn put_wire(room: &mut [u8], start: usize, command: u16, payload: &[u8]) -> usiz
 // Protocol byte, length and command of a frame with n data bytes.
 fn head_of(command: u16, n: usize) -> [u8; frame::HEAD]
     requires { ⌜ n ≤ maxData ⌝ }
-    ensures { λ r. ⌜ r ≡ header command n ⌝ }
+    ensures { λ r. ⌜ r ≡ headOf command n ⌝ }
 {
     [
         0,

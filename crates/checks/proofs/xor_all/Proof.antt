@@ -17,6 +17,7 @@ unfolding xorAll
 xorAll-more l i h =
     rw (add-one, take-suc l i 0, xorAll-append) (ap (λ (n : ℕ). xorAll (take i l) ⊕ n) (⊕-zero (getD l i 0)))
 
+-- x is the exclusive or of the first i bytes; each turn takes one more.
 abbrev Inv-loop : tie.InvT-loop
 Inv-loop bytes x₀ i₀ x i = (i ≤ length bytes) × (x ≡ xorAll (take i bytes))
 

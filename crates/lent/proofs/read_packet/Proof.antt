@@ -5,7 +5,7 @@ use denote.Triple.Table.{entered, cited}
 use Rattle.line.specs.Answers.{taken, Answers}
 use Rattle.line.specs.Reader
 use Rattle.line.specs.Lent.{packetTold, ReadsPacket}
-use Rattle.line.specs.CallLaws.{packet-lent}
+use Rattle.line.specs.AnswerLaws.{packet-lent}
 use Rattle.line.proofs.Answer as An
 use Rattle.line.proofs.Answer.Laws as An′
 use Rattle.line.proofs.PacketTold as To

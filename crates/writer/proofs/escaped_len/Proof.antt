@@ -10,6 +10,7 @@ use Rattle.line.specs.WireLaws.{escape-more, escape-within, escape-short}
 use Rattle.writer.proofs.escaped_len.Statement.{statement}
 use Rattle.writer.proofs.escaped_len.Tie as tie
 
+-- n is the escaped length of the first i bytes; each turn adds that of one more.
 abbrev Inv-loop : tie.InvT-loop
 Inv-loop bytes n₀ i₀ n i = (i ≤ length bytes) × (n ≡ length (escape (take i bytes)))
 

@@ -10,6 +10,7 @@ use Rattle.line.specs.WireLaws.{escape-more, escape-within}
 use Rattle.writer.proofs.put_all.Statement.{statement}
 use Rattle.writer.proofs.put_all.Tie as tie
 
+-- The first i bytes are written, escaped; each turn writes one more.
 abbrev Inv-loop : tie.InvT-loop
 Inv-loop room₀ start bytes at₀ i₀ room at i = (i ≤ length bytes) × Wrote room₀ start (escape (take i bytes)) room at
 

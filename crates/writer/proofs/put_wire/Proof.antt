@@ -8,14 +8,14 @@ use lib.Bits.{bitXor}
 use Rattle.store.specs.Wrote.{Wrote}
 use Rattle.store.specs.WroteLaws.{one, then, kept}
 use Rattle.line.specs.Wire.{END, escape}
-use Rattle.frame.specs.Code.{header}
+use Rattle.frame.specs.Code.{headOf}
 use Rattle.frame.specs.WireLaws.{check, wire-parts, wire-length}
 use borrow.Author.Needs.{needs}
 use Rattle.writer.proofs.put_wire.Statement.{statement}
 use Rattle.writer.proofs.put_wire.Tie as tie
 
--- the header
-head-is : (c : tie.After-head-of) → c .head-of .result ≡ header (c .before .before .before .args .command) (length (c .before .before .before .args .payload .now))
+-- the head
+head-is : (c : tie.After-head-of) → c .head-of .result ≡ headOf (c .before .before .before .args .command) (length (c .before .before .before .args .payload .now))
 head-is c = c .head-of .ensures
 
 -- the check byte
@@ -24,19 +24,19 @@ checked c = check-byte _ _ _ _ _ (c .before .before .before .head-of .ensures) (
 
 -- what is written after each part
 wrote-head : (c : tie.After-put-all)
-    → Wrote (c .before .before .before .before .before .before .before .before .before .args .room .now) (c .before .before .before .before .before .before .before .before .before .args .start) ((END ∷ []) ++ escape (header (c .before .before .before .before .before .before .before .before .before .args .command) (length (c .before .before .before .before .before .before .before .before .before .args .payload .now))))
+    → Wrote (c .before .before .before .before .before .before .before .before .before .args .room .now) (c .before .before .before .before .before .before .before .before .before .args .start) ((END ∷ []) ++ escape (headOf (c .before .before .before .before .before .before .before .before .before .args .command) (length (c .before .before .before .before .before .before .before .before .before .args .payload .now))))
     (c .put-all .last .0) (c .put-all .result)
 wrote-head c = then (one _ _ _) (rw (head-is (c .before .before .before .before .before .before)) at (c .put-all .ensures))
 
 wrote-payload : (c : tie.After-put-all2)
     → Wrote (c .before .before .before .before .before .before .before .before .before .before .before .before .before .args .room .now) (c .before .before .before .before .before .before .before .before .before .before .before .before .before .args .start)
-    ((END ∷ []) ++ escape (header (c .before .before .before .before .before .before .before .before .before .before .before .before .before .args .command) (length (c .before .before .before .before .before .before .before .before .before .before .before .before .before .args .payload .now))) ++ escape (c .before .before .before .before .before .before .before .before .before .before .before .before .before .args .payload .now))
+    ((END ∷ []) ++ escape (headOf (c .before .before .before .before .before .before .before .before .before .before .before .before .before .args .command) (length (c .before .before .before .before .before .before .before .before .before .before .before .before .before .args .payload .now))) ++ escape (c .before .before .before .before .before .before .before .before .before .before .before .before .before .args .payload .now))
     (c .put-all2 .last .0) (c .put-all2 .result)
 wrote-payload c = then (wrote-head (c .before .before .before .before)) (c .put-all2 .ensures)
 
 wrote-check : (c : tie.After-put-all3)
     → Wrote (c .before .before .before .before .before .before .before .before .before .before .before .before .before .before .before .before .before .before .args .room .now) (c .before .before .before .before .before .before .before .before .before .before .before .before .before .before .before .before .before .before .args .start)
-    ((END ∷ []) ++ escape (header (c .before .before .before .before .before .before .before .before .before .before .before .before .before .before .before .before .before .before .args .command) (length (c .before .before .before .before .before .before .before .before .before .before .before .before .before .before .before .before .before .before .args .payload .now))) ++ escape (c .before .before .before .before .before .before .before .before .before .before .before .before .before .before .before .before .before .before .args .payload .now)
+    ((END ∷ []) ++ escape (headOf (c .before .before .before .before .before .before .before .before .before .before .before .before .before .before .before .before .before .before .args .command) (length (c .before .before .before .before .before .before .before .before .before .before .before .before .before .before .before .before .before .before .args .payload .now))) ++ escape (c .before .before .before .before .before .before .before .before .before .before .before .before .before .before .before .before .before .before .args .payload .now)
     ++ escape (check (c .before .before .before .before .before .before .before .before .before .before .before .before .before .before .before .before .before .before .args .command) (c .before .before .before .before .before .before .before .before .before .before .before .before .before .before .before .before .before .before .args .payload .now) ∷ []))
     (c .put-all3 .last .0) (c .put-all3 .result)
 wrote-check c = then (wrote-payload (c .before .before .before .before .before)) (rw (checked (c .before .before .before .before .before .before .before .before .before .before .before .before)) at (c .put-all3 .ensures))
@@ -64,13 +64,13 @@ slice-aggregate-put-all c = search needs
 
 put-all-requires : tie.Need-put-all-requires
 put-all-requires c κs =
-    let e : length (escape (c .before .before .before .before .before .head-of .result)) ≡ length (escape (header (c .before .before .before .before .before .before .before .before .args .command) (length (c .before .before .before .before .before .before .before .before .args .payload .now)))) = ap (λ (l : List ℕ). length (escape l)) (head-is (c .before .before .before .before .before)) in
+    let e : length (escape (c .before .before .before .before .before .head-of .result)) ≡ length (escape (headOf (c .before .before .before .before .before .before .before .before .args .command) (length (c .before .before .before .before .before .before .before .before .args .payload .now)))) = ap (λ (l : List ℕ). length (escape l)) (head-is (c .before .before .before .before .before)) in
     simp length-set (omega (arith, c .before .before .before .before .before .before .before .before .pre .1, wire-length (c .before .before .before .before .before .before .before .before .args .command) (c .before .before .before .before .before .before .before .before .args .payload .now)))
 
 put-all-requires-2 : tie.Need-put-all-requires-2
 put-all-requires-2 c κs =
     let w = wrote-head (c .before .before .before) in
-    omega (arith, kept w, w .place, c .before .before .before .before .before .before .before .before .before .before .before .before .pre .1, wire-length (c .before .before .before .before .before .before .before .before .before .before .before .before .args .command) (c .before .before .before .before .before .before .before .before .before .before .before .before .args .payload .now), length-append (END ∷ []) (escape (header (c .before .before .before .before .before .before .before .before .before .before .before .before .args .command) (length (c .before .before .before .before .before .before .before .before .before .before .before .before .args .payload .now)))))
+    omega (arith, kept w, w .place, c .before .before .before .before .before .before .before .before .before .before .before .before .pre .1, wire-length (c .before .before .before .before .before .before .before .before .before .before .before .before .args .command) (c .before .before .before .before .before .before .before .before .before .before .before .before .args .payload .now), length-append (END ∷ []) (escape (headOf (c .before .before .before .before .before .before .before .before .before .before .before .before .args .command) (length (c .before .before .before .before .before .before .before .before .before .before .before .before .args .payload .now)))))
 
 slice-aggregate-put-all-2 : tie.Need-slice-aggregate-put-all-2
 slice-aggregate-put-all-2 c = search needs

@@ -7,14 +7,14 @@ use lib.ListN.{length}
 use lib.Bits.{bitXor}
 use Rattle.line.specs.Wire.{escape}
 use Rattle.frame.specs.Frame.{wire}
-use Rattle.frame.specs.Code.{header}
+use Rattle.frame.specs.Code.{headOf}
 use Rattle.frame.specs.WireLaws.{check, wire-length, wire-fits}
 use borrow.Author.Needs.{needs}
 use Rattle.writer.proofs.wire_len.Statement.{statement}
 use Rattle.writer.proofs.wire_len.Tie as tie
 
--- the header, escaped
-head-len : (c : tie.After-escaped-len) → c .escaped-len .result ≡ length (escape (header (c .before .before .before .before .before .before .before .args .command) (length (c .before .before .before .before .before .before .before .args .payload .now))))
+-- the head, escaped
+head-len : (c : tie.After-escaped-len) → c .escaped-len .result ≡ length (escape (headOf (c .before .before .before .before .before .before .before .args .command) (length (c .before .before .before .before .before .before .before .args .payload .now))))
 head-len c = c .escaped-len .ensures ∙ ap (λ (l : List ℕ). length (escape l)) (c .before .before .before .before .before .head-of .ensures)
 
 -- the check byte
