@@ -1,5 +1,7 @@
-use Prim.Native.Nat.{_+_, _≤_, _<_, _-_}
+use Prim.Native.Nat.{ℕ, _+_, _≤_, _<_, _-_}
 use mathlib.Core.Path.{_≡_, refl, sym, ap, _∙_}
+use mathlib.Core.List.{List}
+use mathlib.Core.Option.{none}
 use native.Mathlib.Omega.{arith}
 use lib.ListN.{length, take, drop, getD}
 use lib.Seq.{length-take-le}
@@ -29,25 +31,51 @@ begun : (c : tie.After-taken-at Inv-loop μ-loop)
     ≡ read (at (take (c .taken-at .result .count) (c .before .before .args .bytes .now)) (c .taken-at .result .mode)) (c .before .before .args .wire .now)
 begun c = ap (λ (s : State). read s (c .before .before .args .wire .now)) (sym (c .taken-at .ensures .state (c .before .before .args .bytes .now)))
 
--- the whole run, seen from behind the bytes that went as they are
-ran : (c : tie.After-plain-run Inv-loop μ-loop)
-    → read (at (take (c .before .before .before .before .taken-at .result .count) (c .before .before .before .before .before .before .args .bytes .now)) (c .before .before .before .before .taken-at .result .mode)) (c .before .before .before .before .before .before .args .wire .now)
-    ≡ ahead (c .before .before .before .loop .i + c .plain-run .result)
-    (read (at (take (c .before .before .before .loop .count + c .plain-run .result) (c .plain-run .last .1 .0)) (c .before .before .before .loop .mode)) (drop (c .before .before .before .loop .i + c .plain-run .result) (c .before .before .before .before .before .before .args .wire .now)))
-ran c = c .before .before .before .loop .inv .3 ∙ ap (ahead _) (c .plain-run .ensures .read) ∙ ahead-ahead step _ _ _
+-- Behind the bytes that went as they are: the state that the loop began in, the wire, how many of its bytes are used, how many
+-- are held, their array, and the state.
+module _ (c : tie.After-plain-run Inv-loop μ-loop) where
+  abbrev first : State
+  first = at (take (c .before .before .before .before .taken-at .result .count) (c .before .before .before .before .before .before .args .bytes .now)) (c .before .before .before .before .taken-at .result .mode)
 
--- what `decide` answers is the definition's step
-stepped : (c : tie.After-decide Inv-loop μ-loop) (a : Action) → c .decide .result ≡ a
-    → step (at (take (c .before .before .before .before .before .before .loop .count + c .before .before .before .plain-run .result) (c .before .before .before .plain-run .last .1 .0)) (c .before .before .before .before .before .before .loop .mode)) (getD (c .before .before .before .before .before .before .before .before .before .args .wire .now) (c .before .before .before .before .before .before .loop .i + c .before .before .before .plain-run .result) 0) ≡ acted (take (c .before .before .before .before .before .before .loop .count + c .before .before .before .plain-run .result) (c .before .before .before .plain-run .last .1 .0)) a
-stepped c a e =
-    let r = c .before .before .before .plain-run .ensures in
-    let f = r .full in
-    let g = r .held in
-    let h : (c .before .before .before .before .before .before .loop .count + c .before .before .before .plain-run .result) ≤ length (c .before .before .before .plain-run .last .1 .0) = omega arith in
-    sym (c .decide .ensures .act _ (length-take-le _ _ h)) ∙ ap (acted _) e
+  abbrev wire : List ℕ
+  wire = c .before .before .before .before .before .before .args .wire .now
 
-fitting : (c : tie.After-decide Inv-loop μ-loop) (a : Action) → c .decide .result ≡ a → Fits (c .before .before .before .before .before .before .loop .count + c .before .before .before .plain-run .result) a
-fitting c a e = rw e at (c .decide .ensures .fits)
+  abbrev used : ℕ
+  used = c .before .before .before .loop .i + c .plain-run .result
+
+  abbrev count : ℕ
+  count = c .before .before .before .loop .count + c .plain-run .result
+
+  abbrev array : List ℕ
+  array = c .plain-run .last .1 .0
+
+  abbrev here : State
+  here = at (take count array) (c .before .before .before .loop .mode)
+
+  -- the whole run, seen from there
+  ran : read first wire ≡ ahead used (read here (drop used wire))
+  ran = c .before .before .before .loop .inv .3 ∙ ap (ahead _) (c .plain-run .ensures .read) ∙ ahead-ahead step _ _ _
+
+-- What `decide` answers of the next byte, the action a, is the definition's step.
+module _ (c : tie.After-decide Inv-loop μ-loop) (a : Action) (e : c .decide .result ≡ a) where
+  abbrev r : tie.After-plain-run Inv-loop μ-loop
+  r = c .before .before .before
+
+  abbrev held : List ℕ
+  held = take (count r) (array r)
+
+  stepped : step (here r) (getD (wire r) (used r) 0) ≡ acted held a
+  stepped =
+      let f = r .plain-run .ensures .full in
+      let g = r .plain-run .ensures .held in
+      sym (c .decide .ensures .act _ (length-take-le _ _ (omega arith))) ∙ ap (acted held) e
+
+  fitting : Fits (count r) a
+  fitting = rw e at (c .decide .ensures .fits)
+
+  -- where it gives no outcome, the run goes on from the state s
+  goes-on : (s : State) → acted held a ≡ (s, none) → read (first r) (wire r) ≡ ahead (used r + 1) (read s (drop (used r + 1) (wire r)))
+  goes-on s x = ran r ∙ moved step _ _ _ _ _ (c .before .before .if1 .left) (stepped ∙ x)
 
 taken-at-requires : tie.Need-taken-at-requires Inv-loop μ-loop
 taken-at-requires c κs = search needs
@@ -96,10 +124,13 @@ loop-less c = let h = c .before .before .before .before .before .if1 .left in om
 
 loop-again : tie.Need-loop-again Inv-loop μ-loop
 loop-again c =
-    let h = fitting (c .before .before .before) _ (c .before .v .given .1) in
-    let g = c .before .before .before .before .before .before .plain-run .ensures .full in
-    let w : (c .before .before .before .before .before .before .before .before .before .loop .count + c .before .before .before .before .before .before .plain-run .result) < length (c .before .before .before .before .before .before .plain-run .last .1 .0) = omega arith in
-    (let z = c .before .before .before .before .before .if1 .left in omega arith, omega arith, tt, ran (c .before .before .before .before .before .before) ∙ moved step _ _ _ _ _ (c .before .before .before .before .before .if1 .left) (stepped (c .before .before .before) _ (c .before .v .given .1) ∙ stored _ _ _ w))
+    let d = c .before .before .before in
+    let r = d .before .before .before in
+    let e = c .before .v .given .1 in
+    let h = fitting d _ e in
+    let f = r .plain-run .ensures .full in
+    let l = d .before .before .if1 .left in
+    (omega arith, omega arith, tt, goes-on d _ e _ (stored (array r) (count r) _ (omega arith)))
 
 enum-known-m : tie.Need-enum-known-m Inv-loop μ-loop
 enum-known-m c = search needs
@@ -108,12 +139,11 @@ loop-less-2 : tie.Need-loop-less-2 Inv-loop μ-loop
 loop-less-2 c = let h = c .before .before .before .before .before .if1 .left in omega arith
 
 loop-again-2 : tie.Need-loop-again-2 Inv-loop μ-loop
-loop-again-2 c = (
-  let z = c .before .before .before .before .before .if1 .left in omega arith,
-  c .before .before .before .before .before .before .plain-run .ensures .held,
-  kept-clear _ (c .before .m .given .0 .0) (fitting (c .before .before .before) _ (c .before .m .given .1)),
-  ran (c .before .before .before .before .before .before) ∙ moved step _ _ _ _ _ (c .before .before .before .before .before .if1 .left) (stepped (c .before .before .before) _ (c .before .m .given .1)),
-)
+loop-again-2 c =
+    let d = c .before .before .before in
+    let e = c .before .m .given .1 in
+    let l = d .before .before .if1 .left in
+    (omega arith, d .before .before .before .plain-run .ensures .held, kept-clear _ (c .before .m .given .0 .0) (fitting d _ e), goes-on d _ e _ refl)
 
 enum-known-f : tie.Need-enum-known-f Inv-loop μ-loop
 enum-known-f c = search needs
@@ -123,17 +153,23 @@ loop-less-3 c = let h = c .before .before .before .before .before .if1 .left in 
 
 loop-again-3 : tie.Need-loop-again-3 Inv-loop μ-loop
 loop-again-3 c =
-    (let z = c .before .before .before .before .before .if1 .left in omega arith, omega arith, refl, ran (c .before .before .before .before .before .before) ∙ moved step _ _ _ _ _ (c .before .before .before .before .before .if1 .left) (stepped (c .before .before .before) _ (c .before .f .given .1)))
+    let d = c .before .before .before in
+    let l = d .before .before .if1 .left in
+    (omega arith, omega arith, refl, goes-on d _ (c .before .f .given .1) _ refl)
 
 enum-known-outcome : tie.Need-enum-known-outcome Inv-loop μ-loop
 enum-known-outcome c = search needs
 
 returns-2 : tie.Need-returns-2 Inv-loop μ-loop
 returns-2 c =
-    let h = fitting (c .before .before .before) _ (c .before .outcome .given .1) in
+    let d = c .before .before .before in
+    let r = d .before .before .before in
+    let o = c .before .outcome .given .0 .0 in
+    let e = c .before .outcome .given .1 in
+    let h = fitting d _ e in
     record {
-      told = sym (begun (c .before .before .before .before .before .before .before .before .before .before) ∙ ran (c .before .before .before .before .before .before) ∙ gave (c .before .before .before .before .before .before .plain-run .last .1 .0) (c .before .before .before .before .before .before .before .before .before .loop .count + c .before .before .before .before .before .before .plain-run .result) (c .before .outcome .given .0 .0) _ _ _ h (c .before .before .before .before .before .if1 .left) (stepped (c .before .before .before) _ (c .before .outcome .given .1)));
-      packet-within = given-within _ (c .before .outcome .given .0 .0) (c .before .before .before .before .before .before .plain-run .ensures .held) h;
+      told = sym (begun (r .before .before .before .before) ∙ ran r ∙ gave (array r) (count r) o _ _ _ h (d .before .before .if1 .left) (stepped d _ e));
+      packet-within = given-within _ o (r .plain-run .ensures .held) h;
       count-within = omega arith;
       clear = tt;
     }
