@@ -1,5 +1,5 @@
 use Rattle.writer.proofs.Laws.{check-byte}
-use Prim.Native.Nat.{ℕ, _+_}
+use Prim.Native.Nat.{ℕ, _+_, _≤_}
 use mathlib.Core.Path.{_≡_, ap, _∙_}
 use mathlib.Core.List.{List, [], _∷_}
 use native.Mathlib.Omega.{arith}
@@ -8,27 +8,42 @@ use lib.Bits.{bitXor}
 use Rattle.line.specs.Wire.{escape}
 use Rattle.frame.specs.Frame.{wire}
 use Rattle.frame.specs.Code.{headOf}
+use Rattle.frame.specs.Writing.{minRoom}
 use Rattle.frame.specs.WireLaws.{check, wire-length, wire-fits}
 use borrow.Author.Needs.{needs}
 use Rattle.writer.proofs.wire_len.Statement.{statement}
 use Rattle.writer.proofs.wire_len.Tie as tie
 
+-- what is measured: the head, the data and the check byte
+module _ (s : tie.Start) where
+  abbrev command : ℕ
+  command = s .args .command
+
+  abbrev payload : List ℕ
+  payload = s .args .payload .now
+
+  -- the wire form fits the least room
+  fits : length (wire command payload) ≤ minRoom
+  fits = wire-fits command payload (s .pre)
+
 -- the head, escaped
-head-len : (c : tie.After-escaped-len) → c .escaped-len .result ≡ length (escape (headOf (c .before .before .before .before .before .before .before .args .command) (length (c .before .before .before .before .before .before .before .args .payload .now))))
+head-len : (c : tie.After-escaped-len) → let s : tie.Start = c .before .before .before .before .before .before .before in c .escaped-len .result ≡ length (escape (headOf (command s) (length (payload s))))
 head-len c = c .escaped-len .ensures ∙ ap (λ (l : List ℕ). length (escape l)) (c .before .before .before .before .before .head-of .ensures)
 
 -- the check byte
-checked : (c : tie.After-xor-all2) → bitXor (c .before .xor-all .result) (c .xor-all2 .result) ≡ check (c .before .before .before .before .before .args .command) (c .before .before .before .before .before .args .payload .now)
+checked : (c : tie.After-xor-all2) → let s : tie.Start = c .before .before .before .before .before in bitXor (c .before .xor-all .result) (c .xor-all2 .result) ≡ check (command s) (payload s)
 checked c = check-byte _ _ _ _ _ (c .before .before .before .head-of .ensures) (c .before .xor-all .ensures) (c .xor-all2 .ensures)
 
-check-len : (c : tie.After-escaped-len3) → c .escaped-len3 .result ≡ length (escape (check (c .before .before .before .before .before .before .before .before .before .before .args .command) (c .before .before .before .before .before .before .before .before .before .before .args .payload .now) ∷ []))
+check-len : (c : tie.After-escaped-len3) → let s : tie.Start = c .before .before .before .before .before .before .before .before .before .before in c .escaped-len3 .result ≡ length (escape (check (command s) (payload s) ∷ []))
 check-len c = c .escaped-len3 .ensures ∙ ap (λ (n : ℕ). length (escape (n ∷ []))) (checked (c .before .before .before .before .before))
 
 -- what the parts come to
 whole : (c : tie.After-escaped-len3)
-    → c .before .before .before .escaped-len .result + c .before .before .escaped-len2 .result + c .escaped-len3 .result + 2
-    ≡ length (wire (c .before .before .before .before .before .before .before .before .before .before .args .command) (c .before .before .before .before .before .before .before .before .before .before .args .payload .now))
-whole c = omega (arith, head-len (c .before .before .before), c .before .before .escaped-len2 .ensures, check-len c, wire-length (c .before .before .before .before .before .before .before .before .before .before .args .command) (c .before .before .before .before .before .before .before .before .before .before .args .payload .now))
+    → let s : tie.Start = c .before .before .before .before .before .before .before .before .before .before in
+    c .before .before .before .escaped-len .result + c .before .before .escaped-len2 .result + c .escaped-len3 .result + 2 ≡ length (wire (command s) (payload s))
+whole c =
+    let s = c .before .before .before .before .before .before .before .before .before .before in
+    omega (arith, head-len (c .before .before .before), c .before .before .escaped-len2 .ensures, check-len c, wire-length (command s) (payload s))
 
 head-of-requires : tie.Need-head-of-requires
 head-of-requires c κs = search needs
@@ -52,7 +67,9 @@ escaped-len-requires-2 : tie.Need-escaped-len-requires-2
 escaped-len-requires-2 c κs = search needs
 
 add-result : tie.Need-add-result
-add-result c = omega (arith, head-len (c .before), c .escaped-len2 .ensures, wire-length (c .before .before .before .before .before .before .before .before .args .command) (c .before .before .before .before .before .before .before .before .args .payload .now), wire-fits (c .before .before .before .before .before .before .before .before .args .command) (c .before .before .before .before .before .before .before .before .args .payload .now) (c .before .before .before .before .before .before .before .before .pre))
+add-result c =
+    let s = c .before .before .before .before .before .before .before .before in
+    omega (arith, head-len (c .before), c .escaped-len2 .ensures, wire-length (command s) (payload s), fits s)
 
 slice-aggregate-escaped-len-2 : tie.Need-slice-aggregate-escaped-len-2
 slice-aggregate-escaped-len-2 c = search needs
@@ -61,10 +78,10 @@ escaped-len-requires-3 : tie.Need-escaped-len-requires-3
 escaped-len-requires-3 c κs = search needs
 
 add-result-2 : tie.Need-add-result-2
-add-result-2 c = omega (arith, whole c, wire-fits (c .before .before .before .before .before .before .before .before .before .before .args .command) (c .before .before .before .before .before .before .before .before .before .before .args .payload .now) (c .before .before .before .before .before .before .before .before .before .before .pre))
+add-result-2 c = omega (arith, whole c, fits (c .before .before .before .before .before .before .before .before .before .before))
 
 add-result-3 : tie.Need-add-result-3
-add-result-3 c = omega (arith, whole c, wire-fits (c .before .before .before .before .before .before .before .before .before .before .args .command) (c .before .before .before .before .before .before .before .before .before .before .args .payload .now) (c .before .before .before .before .before .before .before .before .before .before .pre))
+add-result-3 c = omega (arith, whole c, fits (c .before .before .before .before .before .before .before .before .before .before))
 
 returns : tie.Need-returns
 returns c = whole c
