@@ -3,7 +3,7 @@
 use Prim.Native.Nat.{ℕ, _<_}
 use mathlib.Core.Path.{_≡_, refl, sym, ap, _∙_}
 use mathlib.Core.List.{List, [], _∷_}
-use mathlib.Core.Bool.{Bool, true, false, cond, not, _&&_, _||_}
+use mathlib.Core.Bool.{Bool, true, false, cond, not, _&&_, _||_, false≢true}
 use mathlib.Core.Option.{Option, none, some}
 use native.Mathlib.Omega.{arith}
 use lib.ListN.{length, set, getD, length-set, getD-replicate}
@@ -22,7 +22,7 @@ use Rattle.feeds.specs.Marks.{outcomeOf}
 use Rattle.feeds.specs.SystemLaws.{Fed, barred, done, fed}
 use Rattle.rules.specs.declared.Hub.{Hub}
 use Rattle.rules.specs.Hub as rules
-use Rattle.rules.specs.Cases.{either, each-verdict}
+use Rattle.rules.specs.Cases.{either, each-verdict, each-request}
 use Rattle.demands.specs.Calls.{World, Call, start, enrol, close, finish, feed, after, afterAll, isPassword, unlessRefused, loggedBy, loggedByAll}
 
 -- ---- serving an outcome
@@ -36,17 +36,10 @@ change-kept h old new = either (λ (p : rules.Password). p .hub .logins ≡ h .l
 
 -- every request but password enter leaves the logins
 request-kept : (h : Hub) (t : List ℕ) (l c : ℕ) (d : List ℕ) → eqb c 0x3000 ≡ false → Kept h (rules.request h t l c d)
-unfolding rules.request rules.getNode rules.removeNodes rules.virginState rules.modeSend
+unfolding rules.getNode rules.removeNodes rules.virginState rules.modeSend
 request-kept h t l c d e =
-    rw e
-    (either (Kept h) (eqb c 0x3002) _ _ (change-kept h _ _)
-    (either (Kept h) (eqb c 0x0200) _ _ (either (Kept h) (table.inUse t (getD d 0 0)) _ _ refl refl)
-    (either (Kept h) (eqb c 0x0206) _ _ refl
-    (either (Kept h) (eqb c 0x0208) _ _ refl
-    (either (Kept h) (eqb c 0x020D) _ _ refl
-    (either (Kept h) (eqb c 0x0106) _ _ refl
-    (either (Kept h) (eqb c 0x0108) _ _ refl
-    (either (Kept h) (eqb c 0x0320) _ _ refl refl))))))))
+    each-request (Kept h) h t l c d (λ x. absurd (false≢true (sym e ∙ x))) (change-kept h _ _)
+    (either (Kept h) (table.inUse t (getD d 0 0)) _ _ refl refl) refl refl refl refl refl refl refl
 
 -- password enter is known with 32 data bytes
 enter-verdict : (n : ℕ) → lookup.verdict 0x3000 n ≡ cond (leb 32 n && leb n 32) verdicts.Fits verdicts.WrongLength

@@ -5,7 +5,7 @@ use mathlib.Core.Bool.{Bool, true, false}
 use mathlib.Core.Option.{Option, none, some}
 use native.Mathlib.Omega.{arith}
 use lib.ListN.{length, getD, replicate}
-use lib.Dec.{eqb, ltb}
+use lib.Dec.{ltb}
 use Rattle.frame.specs.Frame.{Outcome, frame, refused}
 use Rattle.frame.specs.Writing.{minRoom}
 use Rattle.nodes.specs.Table as table
@@ -17,7 +17,7 @@ use Rattle.feeds.specs.System as feeds
 use Rattle.feeds.specs.SystemLaws.{Fed, barred, done, fed}
 use Rattle.rules.specs.declared.Hub.{Hub}
 use Rattle.rules.specs.Hub.{Reply, Password, same, enter, change, getNode, removeNodes, virginState, modeSend, request, mayAsk, serve, startRefusal, startBy, closeRefusal, closeBy, finishBy, hub}
-use Rattle.rules.specs.Cases.{either, each-verdict}
+use Rattle.rules.specs.Cases.{either, each-verdict, each-request}
 use Rattle.demands.specs.Calls.{World, Call, start, enrol, close, finish, feed, after, afterAll}
 
 module _ (n : ℕ) where
@@ -47,17 +47,11 @@ module _ (n : ℕ) where
   got h t k p = either Kept (table.inUse t k) _ _ p p
 
   request-one : (h : Hub) (t : List ℕ) (l c : ℕ) (d : List ℕ) → OneAtMost h → OneAtMost (request h t l c d .hub)
-  unfolding request removeNodes virginState modeSend
+  unfolding removeNodes virginState modeSend
   request-one h t l c d p =
-      either Kept (eqb c 0x3000) _ _ (entered h l d p)
-      (either Kept (eqb c 0x3002) _ _ (changed h _ _ p)
-      (either Kept (eqb c 0x0200) _ _ (got h t (getD d 0 0) p)
-      (either Kept (eqb c 0x0206) _ _ p
-      (either Kept (eqb c 0x0208) _ _ p
-      (either Kept (eqb c 0x020D) _ _ p
-      (either Kept (eqb c 0x0106) _ _ (omega (arith, close-holders n (sessions.holdsRemoved t d) (h .slots)))
-      (either Kept (eqb c 0x0108) _ _ (omega (arith, close-holders n (λ (s : Slot). true) (h .slots)))
-      (either Kept (eqb c 0x0320) _ _ (modeSend-holders n (h .slots) t l (sessions.modeSendOf d) p) p))))))))
+      each-request Kept h t l c d (λ e. entered h l d p) (changed h _ _ p) (got h t (getD d 0 0) p) p p p
+      (omega (arith, close-holders n (sessions.holdsRemoved t d) (h .slots))) (omega (arith, close-holders n (λ (s : Slot). true) (h .slots)))
+      (modeSend-holders n (h .slots) t l (sessions.modeSendOf d) p) p
 
   pub serve-one : (h : Hub) (t : List ℕ) (l : ℕ) (o : Outcome) → OneAtMost h → OneAtMost (serve h t l o .hub)
   unfolding serve

@@ -1,5 +1,6 @@
 pub mod Table
 pub mod Answers
+pub mod Cases
 pub mod Overwriting
 pub mod TableLaws
 pub mod StoreLaws

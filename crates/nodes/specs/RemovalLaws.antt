@@ -9,6 +9,7 @@ use lib.Seq.{sets-eq, take-at, drop-at, length-take-le, getD-take, getD-drop, le
 use lib.Dec.{ltb, eqb}
 use borrow.Author.Tests.{ltb-true, ltb-false}
 use Rattle.nodes.specs.Table.{tableSize, recordSize, nodeCount, useField, recordOf, isNode, inUse, bit, isRemoved, emptyRecord, withRecord, removeOne, removeBelow, remove}
+use Rattle.nodes.specs.Cases.{either}
 use Rattle.nodes.specs.TableLaws.{remove-length}
 use Rattle.nodes.specs.StoreLaws.{sets-before, sets-behind, part-same}
 
@@ -42,11 +43,7 @@ inUse-record t m n e = ap (λ (b : ℕ). isNode n && eqb b 1) (first m ∙ ap (�
 module _ (bits : List ℕ) where
   removeOne-other : (t : List ℕ) (n k : ℕ) → (k ≡ n → ⊥) → recordOf (removeOne bits n t) k ≡ recordOf t k
   unfolding removeOne
-  removeOne-other t n k h = go (isRemoved t bits n)
-    where
-      go : (b : Bool) → recordOf (cond b (withRecord t n emptyRecord) t) k ≡ recordOf t k
-      go true = withRecord-other t n emptyRecord k refl h
-      go false = refl
+  removeOne-other t n k h = either (λ (m : List ℕ). recordOf m k ≡ recordOf t k) (isRemoved t bits n) _ _ (withRecord-other t n emptyRecord k refl h) refl
 
   removeOne-same : (t : List ℕ) (n : ℕ) → length t ≡ tableSize → n < nodeCount → recordOf (removeOne bits n t) n ≡ cond (isRemoved t bits n) emptyRecord (recordOf t n)
   unfolding removeOne

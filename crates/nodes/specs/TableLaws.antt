@@ -10,7 +10,12 @@ use lib.Dec.{ltb}
 use borrow.Author.Tests.{ltb-true, eq-eqb}
 use Rattle.nodes.specs.declared.Field.{Field}
 use Rattle.nodes.specs.declared.Informed.{Informed}
-use Rattle.nodes.specs.Table.{tableSize, recordSize, nodeCount, useField, typeField, nameField, orderField, placementField, variationField, spareField, orderAndPlacement, fieldOf, withField, inUse, setField, isRejected, setVariation, Result, information, nothing, informed, isRemoved, emptyRecord, withRecord, removeOne, removeBelow}
+use Rattle.nodes.specs.Cases.{either}
+use Rattle.nodes.specs.Table.{tableSize, recordSize, nodeCount, useField, typeField, nameField, orderField, placementField, variationField, spareField, orderAndPlacement, fieldOf, inUse, setField, isRejected, setVariation, Result, information, nothing, informed, isRemoved, emptyRecord, removeOne, removeBelow}
+
+-- the table has 14,400 bytes
+table-size : tableSize ≡ 14400
+table-size = refl
 
 -- the fields fill a record one behind the other
 fields-fill : (useField .at + useField .size ≡ typeField .at) × (typeField .at + typeField .size ≡ nameField .at)
@@ -26,27 +31,15 @@ both-fill = (refl, refl)
 -- no command changes the table's length
 pub setField-length : (f : Field) (t : List ℕ) (n : ℕ) (vs : List ℕ) → length (setField f t n vs .table) ≡ length t
 unfolding setField
-setField-length f t n vs = go (inUse t n)
-  where
-    go : (b : Bool) → length (cond {A = Result} b (record { status = 0; table = withField t n f vs }) (record { status = 2; table = t }) .table) ≡ length t
-    go true = simp length-sets
-    go false = refl
+setField-length f t n vs = either (λ (r : Result). length (r .table) ≡ length t) (inUse t n) _ _ (simp length-sets) refl
 
 pub setVariation-length : (t : List ℕ) (n v : ℕ) → length (setVariation t n v .table) ≡ length t
 unfolding setVariation
-setVariation-length t n v = go (isRejected t n v)
-  where
-    go : (b : Bool) → length (cond {A = Result} b (record { status = 1; table = t }) (setField variationField t n (v ∷ [])) .table) ≡ length t
-    go true = refl
-    go false = setField-length variationField t n (v ∷ [])
+setVariation-length t n v = either (λ (r : Result). length (r .table) ≡ length t) (isRejected t n v) _ _ refl (setField-length variationField t n (v ∷ []))
 
 removeOne-length : (bits : List ℕ) (n : ℕ) (t : List ℕ) → length (removeOne bits n t) ≡ length t
 unfolding removeOne
-removeOne-length bits n t = go (isRemoved t bits n)
-  where
-    go : (b : Bool) → length (cond b (withRecord t n emptyRecord) t) ≡ length t
-    go true = length-sets t (n * recordSize) emptyRecord
-    go false = refl
+removeOne-length bits n t = either (λ (m : List ℕ). length m ≡ length t) (isRemoved t bits n) _ _ (length-sets t (n * recordSize) emptyRecord) refl
 
 pub remove-length : (bits : List ℕ) (n : ℕ) (t : List ℕ) → length (removeBelow bits n t) ≡ length t
 unfolding removeBelow

@@ -2,18 +2,19 @@
 use Prim.Native.Nat.{ℕ, zero, suc, _+_, _≤_}
 use mathlib.Core.Path.{_≡_, refl, ap, _∙_}
 use mathlib.Core.List.{List, [], _∷_}
-use mathlib.Core.Bool.{Bool, true, false, cond, not, true≢false, false≢true}
+use mathlib.Core.Bool.{Bool, true, false, cond, true≢false, false≢true}
 use mathlib.Core.Option.{Option, none, some}
 use native.Mathlib.Omega.{arith}
 use lib.ListN.{set, getD, replicate}
 use lib.Seq.{getD-set-other}
 use lib.Dec.{eqb}
 use borrow.Author.Tests.{eqb-true, eqb-false}
+use Rattle.nodes.specs.Cases.{either}
 use Rattle.sessions.specs.declared.Slot.{Slot}
 use Rattle.sessions.specs.declared.ModeSend.{ModeSend}
-use Rattle.sessions.specs.declared.Sent.{Sent}
 use Rattle.sessions.specs.Search.{any, first, member}
-use Rattle.sessions.specs.Sessions.{targetCount, closedSlot, isFree, isNumbered, holds, close, named, isLegal, marked, sessionSlot, modeSend, Finished, finish}
+use Rattle.sessions.specs.Sessions.{targetCount, closedSlot, isFree, isNumbered, holds, close, named, marked, sessionSlot, modeSend, Finished, finish}
+use Rattle.sessions.specs.SessionLaws.{modeSend-leaves}
 
 -- one, if a test holds
 abbrev pub count : Bool → ℕ
@@ -35,11 +36,9 @@ set-holders n (x ∷ ss) (suc k) s = omega (arith, set-holders n ss k s)
 pub close-holders : (n : ℕ) (p : Slot → Bool) (ss : List Slot) → holders n (close p ss) ≤ holders n ss
 unfolding holders
 close-holders n p [] = omega arith
-close-holders n p (s ∷ ss) = omega (arith, one (p s), close-holders n p ss)
-  where
-    one : (b : Bool) → count (holds n (cond b closedSlot s)) ≤ count (holds n s)
-    one true = omega arith
-    one false = omega arith
+close-holders n p (s ∷ ss) =
+    let one = either (λ (v : Slot). count (holds n v) ≤ count (holds n s)) (p s) closedSlot s (omega arith) (omega arith) in
+    omega (arith, one, close-holders n p ss)
 
 -- a node that no session holds has no holder
 none-holds : (n : ℕ) (ss : List Slot) → any (holds n) ss ≡ false → holders n ss ≡ 0
@@ -85,8 +84,7 @@ fails-each p (m ∷ ns) n e x = go (p m) (eqb n m) refl refl (fails-each p ns n)
 
 -- mode send gives a node a holder only if it had none
 pub modeSend-holders : (n : ℕ) (ss : List Slot) (t : List ℕ) (l : ℕ) (r : ModeSend) → holders n ss ≤ 1 → holders n (modeSend ss t l r .slots) ≤ 1
-unfolding modeSend
-modeSend-holders n ss t l r h = go (not (isLegal t r)) (any (isNumbered (r .session)) ss) (not (any isFree ss)) (any (λ n. any (holds n) ss) (named r)) refl
+modeSend-holders n ss t l r h = modeSend-leaves (λ (vs : List Slot). holders n vs ≤ 1) ss t l r h (taken (member n (named r)) refl)
   where
     taken : (b : Bool) → member n (named r) ≡ b → any (λ n. any (holds n) ss) (named r) ≡ false → holders n (set ss (first isFree ss) (sessionSlot l r)) ≤ 1
     taken true x e =
@@ -98,15 +96,6 @@ modeSend-holders n ss t l r h = go (not (isLegal t r)) (any (isNumbered (r .sess
         at-most false = omega arith
     taken false x e = omega (arith, set-holders n ss (first isFree ss) (sessionSlot l r), ap count (not-held n l r x))
 
-    go : (a b c d : Bool) → any (λ n. any (holds n) ss) (named r) ≡ d
-        → holders n (cond {A = Sent} a (record { status = 5; slots = ss }) (cond b (record { status = 3; slots = ss }) (cond c (record { status = 4; slots = ss })
-        (cond d (record { status = 1; slots = ss }) (record { status = 0; slots = set ss (first isFree ss) (sessionSlot l r) })))) .slots) ≤ 1
-    go true b c d e = h
-    go false true c d e = h
-    go false false true d e = h
-    go false false false true e = h
-    go false false false false e = taken (member n (named r)) refl e
-
 -- the slots that a finish leaves
 abbrev pub leftBy : Option Finished → List Slot → List Slot
 leftBy none ss = ss
@@ -114,11 +103,6 @@ leftBy (some f) ss = f .slots
 
 pub finish-holders : (n : ℕ) (ss : List Slot) (x : ℕ) → holders n (leftBy (finish ss x) ss) ≤ holders n ss
 unfolding finish
-finish-holders n ss x = go (any (isNumbered x) ss)
-  where
-    k : ℕ
-    k = first (isNumbered x) ss
-
-    go : (b : Bool) → holders n (leftBy (cond b (some (record { line = getD ss k closedSlot .line; slots = set ss k closedSlot })) none) ss) ≤ holders n ss
-    go true = omega (arith, set-holders n ss k closedSlot)
-    go false = omega arith
+finish-holders n ss x =
+    either (λ (o : Option Finished). holders n (leftBy o ss) ≤ holders n ss) (any (isNumbered x) ss) _ _
+    (omega (arith, set-holders n ss (first (isNumbered x) ss) closedSlot)) (omega arith)

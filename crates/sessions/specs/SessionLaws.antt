@@ -10,6 +10,7 @@ use lib.ListN.{length, take, drop, getD, set, replicate, length-map, length-set,
 use lib.Seq.{drop-cons, take-suc}
 use lib.Dec.{leb, ltb, eqb}
 use borrow.Author.Tests.{leb-true}
+use Rattle.nodes.specs.Cases.{either, either-by}
 use Rattle.nodes.specs.Table.{inUse, isRemoved, nodeCount}
 use Rattle.sessions.specs.declared.Slot.{Slot}
 use Rattle.sessions.specs.declared.ModeSend.{ModeSend}
@@ -20,22 +21,22 @@ use Rattle.sessions.specs.Search.{any, first, member, below}
 use Rattle.sessions.specs.SearchLaws.{member-last}
 use Rattle.sessions.specs.Sessions.{closedSlot, isOn, closeLine, holdsRemoved, closeRemoved, isFree, isNumbered, holds, closeIf, close, closeAll, targetCount, maxIndices, named, targetsLegal, isLegal, marked, sessionSlot, modeSend, Finished, ended}
 
+-- a mode send leaves the slots, or opens a session in the lowest free one, of whose nodes none is held
+pub modeSend-leaves : (P : List Slot → Type 0) (ss : List Slot) (t : List ℕ) (l : ℕ) (r : ModeSend) → P ss
+    → (any (λ n. any (holds n) ss) (named r) ≡ false → P (set ss (first isFree ss) (sessionSlot l r))) → P (modeSend ss t l r .slots)
+unfolding modeSend
+modeSend-leaves P ss t l r same opened =
+    either (λ (s : Sent). P (s .slots)) (not (isLegal t r)) _ _ same
+    (either (λ (s : Sent). P (s .slots)) (any (isNumbered (r .session)) ss) _ _ same
+    (either (λ (s : Sent). P (s .slots)) (not (any isFree ss)) _ _ same
+    (either-by (λ (s : Sent). P (s .slots)) (any (λ n. any (holds n) ss) (named r)) _ _ (λ e. same) opened)))
+
 -- there are as many slots after a close or a mode send as before
 pub close-length : (p : Slot → Bool) (ss : List Slot) → length (close p ss) ≡ length ss
 close-length p ss = length-map ss (closeIf p)
 
 pub modeSend-length : (ss : List Slot) (t : List ℕ) (l : ℕ) (r : ModeSend) → length (modeSend ss t l r .slots) ≡ length ss
-unfolding modeSend
-modeSend-length ss t l r = go (not (isLegal t r)) (any (isNumbered (r .session)) ss) (not (any isFree ss)) (any (λ n. any (holds n) ss) (named r))
-  where
-    go : (a b c d : Bool)
-        → length (cond {A = Sent} a (record { status = 5; slots = ss }) (cond b (record { status = 3; slots = ss }) (cond c (record { status = 4; slots = ss })
-        (cond d (record { status = 1; slots = ss }) (record { status = 0; slots = set ss (first isFree ss) (sessionSlot l r) })))) .slots) ≡ length ss
-    go true b c d = refl
-    go false true c d = refl
-    go false false true d = refl
-    go false false false true = refl
-    go false false false false = length-set ss (first isFree ss) (sessionSlot l r)
+modeSend-length ss t l r = modeSend-leaves (λ (vs : List Slot). length vs ≡ length ss) ss t l r refl (λ e. length-set ss (first isFree ss) (sessionSlot l r))
 
 -- after the sessions that pass a test are closed, none passes it, if a free slot does not
 pub close-none : (p : Slot → Bool) → p closedSlot ≡ false → (ss : List Slot) → any p (close p ss) ≡ false

@@ -4,9 +4,6 @@ use mathlib.Core.Path.{_∙_}
 use borrow.Author.Needs.{needs}
 use Rattle.enrolment.proofs.empty.Statement.{statement}
 use Rattle.enrolment.proofs.empty.Tie as tie
-use Rattle.enrolment.proofs.empty.Reads as reads
-use Rattle.enrolment.proofs.empty.Lts as lts
-use Rattle.store.proofs.fill.Reads as fill-reads
 
 fill-requires : tie.Need-fill-requires
 fill-requires c κs = search needs

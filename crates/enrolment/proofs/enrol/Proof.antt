@@ -7,10 +7,6 @@ use mathlib.Core.Path.{_∙_}
 use borrow.Author.Needs.{needs}
 use Rattle.enrolment.proofs.enrol.Statement.{statement}
 use Rattle.enrolment.proofs.enrol.Tie as tie
-use Rattle.enrolment.proofs.enrol.Reads as reads
-use Rattle.enrolment.proofs.enrol.Lts as lts
-use Rattle.store.proofs.copy.Reads as copy-reads
-use Rattle.store.proofs.fill.Reads as fill-reads
 
 mul-at : tie.Need-mul-at
 mul-at c = search needs

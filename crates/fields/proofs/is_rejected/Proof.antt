@@ -2,9 +2,6 @@ use mathlib.Core.Path.{sym, _∙_}
 use borrow.Author.Needs.{needs}
 use Rattle.fields.proofs.is_rejected.Statement.{statement}
 use Rattle.fields.proofs.is_rejected.Tie as tie
-use Rattle.fields.proofs.is_rejected.Reads as reads
-use Rattle.fields.proofs.is_rejected.Lts as lts
-use Rattle.table.proofs.in_use.Reads as in-use-reads
 
 in-use-requires : tie.Need-in-use-requires
 in-use-requires c κs = search needs

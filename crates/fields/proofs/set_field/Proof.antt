@@ -8,11 +8,6 @@ use mathlib.Core.Path.{sym, _∙_, refl}
 use borrow.Author.Needs.{needs}
 use Rattle.fields.proofs.set_field.Statement.{statement}
 use Rattle.fields.proofs.set_field.Tie as tie
-use Rattle.fields.proofs.set_field.Reads as reads
-use Rattle.fields.proofs.set_field.Lts as lts
-use Rattle.table.proofs.in_use.Reads as in-use-reads
-use Rattle.fields.proofs.least.Reads as least-reads
-use Rattle.store.proofs.copy.Reads as copy-reads
 
 in-use-requires : tie.Need-in-use-requires
 in-use-requires c κs = search needs

@@ -3,10 +3,6 @@ use mathlib.Core.Path.{sym, _∙_, refl}
 use borrow.Author.Needs.{needs}
 use Rattle.fields.proofs.set_variation.Statement.{statement}
 use Rattle.fields.proofs.set_variation.Tie as tie
-use Rattle.fields.proofs.set_variation.Reads as reads
-use Rattle.fields.proofs.set_variation.Lts as lts
-use Rattle.fields.proofs.is_rejected.Reads as is-rejected-reads
-use Rattle.fields.proofs.set_field.Reads as set-field-reads
 
 is-rejected-requires : tie.Need-is-rejected-requires
 is-rejected-requires c κs = search needs

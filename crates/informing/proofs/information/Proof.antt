@@ -5,11 +5,6 @@ use mathlib.Core.Path.{sym, _∙_}
 use borrow.Author.Needs.{needs}
 use Rattle.informing.proofs.information.Statement.{statement}
 use Rattle.informing.proofs.information.Tie as tie
-use Rattle.informing.proofs.information.Reads as reads
-use Rattle.informing.proofs.information.Lts as lts
-use Rattle.table.proofs.in_use.Reads as in-use-reads
-use Rattle.informing.proofs.information_of.Reads as information-of-reads
-use Rattle.informing.proofs.nothing.Reads as nothing-reads
 
 nothing-requires : tie.Need-nothing-requires
 nothing-requires c κs = search needs

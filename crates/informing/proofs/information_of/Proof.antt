@@ -7,10 +7,6 @@ use mathlib.Core.Path.{refl, _∙_}
 use borrow.Author.Needs.{needs}
 use Rattle.informing.proofs.information_of.Statement.{statement}
 use Rattle.informing.proofs.information_of.Tie as tie
-use Rattle.informing.proofs.information_of.Reads as reads
-use Rattle.informing.proofs.information_of.Lts as lts
-use Rattle.informing.proofs.put_field.Reads as put-field-reads
-use Rattle.store.proofs.fill.Reads as fill-reads
 
 array-write-out : tie.Need-array-write-out
 array-write-out c = search needs

@@ -5,9 +5,6 @@ use mathlib.Core.Path.{_≡_, refl, _∙_}
 use borrow.Author.Needs.{needs}
 use Rattle.informing.proofs.put_field.Statement.{statement}
 use Rattle.informing.proofs.put_field.Tie as tie
-use Rattle.informing.proofs.put_field.Reads as reads
-use Rattle.informing.proofs.put_field.Lts as lts
-use Rattle.store.proofs.copy.Reads as copy-reads
 
 mul-start : tie.Need-mul-start
 mul-start c = search needs

@@ -2,9 +2,6 @@ use Rattle.nodes.specs.Table.{bit}
 use borrow.Author.Needs.{needs}
 use Rattle.table.proofs.bit.Statement.{statement}
 use Rattle.table.proofs.bit.Tie as tie
-use Rattle.table.proofs.bit.Reads as reads
-use Rattle.table.proofs.bit.Lts as lts
-use Rattle.table.proofs.byte_at.Reads as byte-at-reads
 
 byte-at-requires : tie.Need-byte-at-requires
 byte-at-requires c κs = search needs

@@ -4,9 +4,6 @@ use borrow.Author.Tests.{lt-ltb, le-ltb}
 use borrow.Author.Needs.{needs}
 use Rattle.table.proofs.in_use.Statement.{statement}
 use Rattle.table.proofs.in_use.Tie as tie
-use Rattle.table.proofs.in_use.Reads as reads
-use Rattle.table.proofs.in_use.Lts as lts
-use Rattle.table.proofs.byte_at.Reads as byte-at-reads
 
 returns : tie.Need-returns
 unfolding inUse

@@ -2,10 +2,6 @@ use mathlib.Core.Path.{sym, _∙_}
 use borrow.Author.Needs.{needs}
 use Rattle.table.proofs.is_removed.Statement.{statement}
 use Rattle.table.proofs.is_removed.Tie as tie
-use Rattle.table.proofs.is_removed.Reads as reads
-use Rattle.table.proofs.is_removed.Lts as lts
-use Rattle.table.proofs.bit.Reads as bit-reads
-use Rattle.table.proofs.in_use.Reads as in-use-reads
 
 bit-requires : tie.Need-bit-requires
 bit-requires c κs = search needs

@@ -7,9 +7,6 @@ use Prim.Native.Nat.{_≤_, _-_}
 use mathlib.Core.Path.{_≡_, ap, _∙_, refl}
 use Rattle.table.proofs.remove.Statement.{statement}
 use Rattle.table.proofs.remove.Tie as tie
-use Rattle.table.proofs.remove.Reads as reads
-use Rattle.table.proofs.remove.Lts as lts
-use Rattle.table.proofs.remove_one.Reads as remove-one-reads
 
 abbrev Inv-loop : tie.InvT-loop
 Inv-loop table₀ bits k₀ table k = (k ≤ nodeCount) × (length table ≡ length table₀) × (table ≡ removeBelow bits k table₀)

@@ -3,10 +3,6 @@ use mathlib.Core.Path.{sym, _∙_}
 use borrow.Author.Needs.{needs}
 use Rattle.table.proofs.remove_one.Statement.{statement}
 use Rattle.table.proofs.remove_one.Tie as tie
-use Rattle.table.proofs.remove_one.Reads as reads
-use Rattle.table.proofs.remove_one.Lts as lts
-use Rattle.table.proofs.is_removed.Reads as is-removed-reads
-use Rattle.store.proofs.fill.Reads as fill-reads
 
 is-removed-requires : tie.Need-is-removed-requires
 is-removed-requires c κs = search needs
