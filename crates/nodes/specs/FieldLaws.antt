@@ -12,7 +12,7 @@ use Rattle.nodes.specs.declared.Field.{Field}
 use Rattle.nodes.specs.Table.{tableSize, recordSize, nodeCount, fieldOf, withField, recordOf}
 use Rattle.nodes.specs.Overwriting.{isPlace, isApart, Overwritten}
 use Rattle.nodes.specs.TableLaws.{field-length}
-use Rattle.nodes.specs.StoreLaws.{sets-before, sets-behind, sets-within, part-same, append-behind}
+use Rattle.nodes.specs.StoreLaws.{sets-before, sets-behind, sets-within, part-before, part-behind, append-behind}
 
 module _ (f : Field) (t : List ℕ) (n : ℕ) (vs : List ℕ) (inside : f .at + f .size ≤ recordSize) (long : length t ≡ tableSize) (node : n < nodeCount) where
   -- where the field starts, and the bytes that are stored
@@ -45,25 +45,25 @@ module _ (f : Field) (t : List ℕ) (n : ℕ) (vs : List ℕ) (inside : f .at + 
       go false p q = before i (leb-false start i p)
 
   -- a part before the field, and one behind it
-  part-before : (a m : ℕ) → a + m ≤ start → take m (drop a after) ≡ take m (drop a t)
-  part-before a m h = part-same after t a m (length-sets t start value) (λ k b. before (a + k) (omega (arith, h, b)))
+  same-before : (a m : ℕ) → a + m ≤ start → take m (drop a after) ≡ take m (drop a t)
+  same-before a m h = part-before value t start a m h
 
-  part-behind : (a m : ℕ) → start + f .size ≤ a → take m (drop a after) ≡ take m (drop a t)
-  part-behind a m h = part-same after t a m (length-sets t start value) (λ k b. behind (a + k) (omega (arith, h, b)))
+  same-behind : (a m : ℕ) → start + f .size ≤ a → take m (drop a after) ≡ take m (drop a t)
+  same-behind a m h = part-behind value t start a m (omega (arith, value-size, h))
 
   fields : (g : Field) → isApart f g ≡ true → fieldOf after n g ≡ fieldOf t n g
   fields g h = go (leb (f .at + f .size) (g .at)) refl h
     where
       go : (b : Bool) → leb (f .at + f .size) (g .at) ≡ b → b || leb (g .at + g .size) (f .at) ≡ true → fieldOf after n g ≡ fieldOf t n g
-      go true p q = part-behind (n * recordSize + g .at) (g .size) (omega (arith, leb-true (f .at + f .size) (g .at) p))
-      go false p q = part-before (n * recordSize + g .at) (g .size) (omega (arith, leb-true (g .at + g .size) (f .at) q))
+      go true p q = same-behind (n * recordSize + g .at) (g .size) (omega (arith, leb-true (f .at + f .size) (g .at) p))
+      go false p q = same-before (n * recordSize + g .at) (g .size) (omega (arith, leb-true (g .at + g .size) (f .at) q))
 
   records : (k : ℕ) → (k ≡ n → ⊥) → recordOf after k ≡ recordOf t k
   records k h = go (ltb k n) refl
     where
       go : (b : Bool) → ltb k n ≡ b → recordOf after k ≡ recordOf t k
-      go true p = part-before (k * recordSize) recordSize (omega (arith, ltb-true k n p))
-      go false p = part-behind (k * recordSize) recordSize (omega (arith, ltb-false k n p, h, inside))
+      go true p = same-before (k * recordSize) recordSize (omega (arith, ltb-true k n p))
+      go false p = same-behind (k * recordSize) recordSize (omega (arith, ltb-false k n p, h, inside))
 
   -- what stands behind the value's bytes
   abbrev left : List ℕ

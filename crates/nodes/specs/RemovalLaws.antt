@@ -5,13 +5,13 @@ use mathlib.Core.List.{List, _++_, append-assoc}
 use mathlib.Core.Bool.{Bool, true, false, cond, _&&_}
 use native.Mathlib.Omega.{arith}
 use lib.ListN.{length, take, drop, getD}
-use lib.Seq.{sets-eq, take-at, drop-at, length-take-le, getD-take, getD-drop, length-sets}
+use lib.Seq.{sets-eq, take-at, drop-at, length-take-le, getD-take, getD-drop}
 use lib.Dec.{ltb, eqb}
 use borrow.Author.Tests.{ltb-true, ltb-false}
 use Rattle.nodes.specs.Table.{tableSize, recordSize, nodeCount, useField, recordOf, isNode, inUse, bit, isRemoved, emptyRecord, withRecord, removeOne, removeBelow, remove}
 use Rattle.nodes.specs.Cases.{either}
 use Rattle.nodes.specs.TableLaws.{remove-length}
-use Rattle.nodes.specs.StoreLaws.{sets-before, sets-behind, part-same}
+use Rattle.nodes.specs.StoreLaws.{part-before, part-behind}
 
 -- a record with other bytes holds them, and no other record changes
 pub withRecord-same : (t : List ℕ) (n : ℕ) (vs : List ℕ) → length t ≡ tableSize → n < nodeCount → length vs ≡ recordSize → recordOf (withRecord t n vs) n ≡ vs
@@ -25,12 +25,8 @@ pub withRecord-other : (t : List ℕ) (n : ℕ) (vs : List ℕ) (k : ℕ) → le
 withRecord-other t n vs k e h = go (ltb k n) refl
   where
     go : (b : Bool) → ltb k n ≡ b → recordOf (withRecord t n vs) k ≡ recordOf t k
-    go true p =
-        let b = ltb-true k n p in
-        part-same (withRecord t n vs) t (k * recordSize) recordSize (length-sets t (n * recordSize) vs) (λ j c. sets-before vs t (n * recordSize) (k * recordSize + j) (omega (arith, b, c)))
-    go false p =
-        let b = ltb-false k n p in
-        part-same (withRecord t n vs) t (k * recordSize) recordSize (length-sets t (n * recordSize) vs) (λ j c. sets-behind vs t (n * recordSize) (k * recordSize + j) (omega (arith, b, c, e, h)))
+    go true p = part-before vs t (n * recordSize) (k * recordSize) recordSize (omega (arith, ltb-true k n p))
+    go false p = part-behind vs t (n * recordSize) (k * recordSize) recordSize (omega (arith, ltb-false k n p, e, h))
 
 -- whether a node is in use is told by its record alone
 inUse-record : (t m : List ℕ) (n : ℕ) → recordOf m n ≡ recordOf t n → inUse m n ≡ inUse t n

@@ -5,7 +5,7 @@ use mathlib.Core.List.{List, [], _∷_, _++_}
 use native.Mathlib.Nat.{add-zero, add-suc, suc-add}
 use native.Mathlib.Omega.{arith}
 use lib.ListN.{length, take, drop, getD, set, length-take, length-drop, length-set}
-use lib.Seq.{sets, getD-set-same, getD-set-other, getD-take, getD-drop, getD-append-add, ext-getD}
+use lib.Seq.{sets, length-sets, getD-set-same, getD-set-other, getD-take, getD-drop, getD-append-add, ext-getD}
 
 -- a place before the run, one behind it, and one of it
 pub sets-before : (vs l : List ℕ) (i j : ℕ) → j < i → getD (sets l i vs) j 0 ≡ getD l j 0
@@ -22,7 +22,7 @@ sets-within (v ∷ vs) l i zero h b = rw add-zero (sets-before vs (set l i v) (s
 sets-within (v ∷ vs) l i (suc k) h b = rw (add-suc, ← suc-add) (sets-within vs (set l i v) (suc i) k (omega arith) (simp length-set (omega arith)))
 
 -- parts that agree at each place are equal
-pub part-same : (l m : List ℕ) (a n : ℕ) → length l ≡ length m → ((k : ℕ) → k < n → getD l (a + k) 0 ≡ getD m (a + k) 0) → take n (drop a l) ≡ take n (drop a m)
+part-same : (l m : List ℕ) (a n : ℕ) → length l ≡ length m → ((k : ℕ) → k < n → getD l (a + k) 0 ≡ getD m (a + k) 0) → take n (drop a l) ≡ take n (drop a m)
 part-same l m a n e h = ext-getD 0 (take n (drop a l)) (take n (drop a m)) (simp (length-take, length-drop, e)) (λ k b. at k (below k b))
   where
     below : (k : ℕ) → k < length (take n (drop a l)) → k < n
@@ -30,6 +30,13 @@ part-same l m a n e h = ext-getD 0 (take n (drop a l)) (take n (drop a m)) (simp
 
     at : (k : ℕ) → k < n → getD (take n (drop a l)) k 0 ≡ getD (take n (drop a m)) k 0
     at k b = getD-take n (drop a l) k 0 b ∙ getD-drop a l k 0 ∙ h k b ∙ sym (getD-take n (drop a m) k 0 b ∙ getD-drop a m k 0)
+
+-- a part before the run, and one behind it
+pub part-before : (vs l : List ℕ) (i a n : ℕ) → a + n ≤ i → take n (drop a (sets l i vs)) ≡ take n (drop a l)
+part-before vs l i a n h = part-same (sets l i vs) l a n (length-sets l i vs) (λ k b. sets-before vs l i (a + k) (omega (arith, h, b)))
+
+pub part-behind : (vs l : List ℕ) (i a n : ℕ) → i + length vs ≤ a → take n (drop a (sets l i vs)) ≡ take n (drop a l)
+part-behind vs l i a n h = part-same (sets l i vs) l a n (length-sets l i vs) (λ k b. sets-behind vs l i (a + k) (omega (arith, h, b)))
 
 -- a place behind the seam
 pub append-behind : (l m : List ℕ) (k : ℕ) → length l ≤ k → getD (l ++ m) k 0 ≡ getD m (k - length l) 0
