@@ -2,7 +2,7 @@
 use Prim.Native.Nat.{ℕ, suc, _+_, _<_}
 use mathlib.Core.Path.{_≡_, refl, sym, ap, _∙_, subst}
 use mathlib.Core.Bool.{Bool, true, false, cond}
-use mathlib.Core.List.{List, [], _∷_, _++_, nil≢cons}
+use mathlib.Core.List.{List, [], _∷_, _++_, nil≢cons, head-eq-of-cons-eq, tail-eq-of-cons-eq}
 use mathlib.Core.Option.{Option, none, some}
 use native.Mathlib.Omega.{arith}
 use lib.ListN.{length, set}
@@ -143,7 +143,7 @@ module _ (H : System) (l k : ℕ) where
         leave e (x .1) (reset w) refl
         (subst (λ (v : World H). Runs (x .0) v k es) (reset-set w e s (eqb-true (e .line) l p)) (ih (x .0) (omega (arith, fed-length H (done i s none f))) u))
     inside-step {w} {e} {x} es back (done i s (some y) f) q h true p u ih =
-        let z : y ≡ o = cc in
+        let z : y ≡ o = head-eq-of-cons-eq u in
         let served : H .serve (w .hub) (w .table) (e .line) y ≡ record { hub = w .hub; table = w .table; reply = first ∷ others } =
         rw (z, eqb-true (e .line) l p) (only (w .hub) (w .table)) in
         last es e (x .1) (suc k) (omega arith) (reset w) (x .0) (ap (λ (r : Served (H .Hub) (H .Table)). r .reply) served)
@@ -185,7 +185,7 @@ module _ (H : System) (l k : ℕ) where
         keep e (x .1) w q (ih n (y ∷ front) (x .0) c (omega (arith, fed-length H (done i s none f))) tt u)
     before-step {w} {e} {x} es n y front back c (done i s (some v) f) q h true p u ih =
         keep e (x .1) w q (ih (suc n) front (x .0) (omega arith) (omega (arith, fed-length H (done i s (some v) f)))
-        (ready front (x .0) (own-set H l w e s (eqb-true (e .line) l p) h ∙ done-resets H w e i s v f)) (cc))
+        (ready front (x .0) (own-set H l w e s (eqb-true (e .line) l p) h ∙ done-resets H w e i s v f)) (tail-eq-of-cons-eq u))
     before-step {w} {e} {x} es n y front back c d q h false p u ih = keep e (x .1) w q (ih n (y ∷ front) (x .0) c (omega (arith, fed-length H d)) tt u)
 
     -- All feeds.
