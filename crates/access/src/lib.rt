@@ -4,6 +4,7 @@ ghost use mathlib.Core.Path.{_≡_};
 ghost use lib.ListN.{set};
 ghost use Rattle.rules.specs.Hub.{same, enter, change, withSlots, isListed};
 ghost use Rattle.access.specs.Answers.{Enters};
+ghost use Rattle.calls.specs.Replies.{passwordAt};
 use rules::Hub;
 use sessions::Slot;
 
@@ -102,6 +103,18 @@ pub fn with_slots(hub: Hub, slots: [Slot; sessions::SLOTS]) -> Hub
         logins: logins,
         slots: slots,
     }
+}
+
+// A password in a request's data, from the place `at` on; bytes that are missing count as 0.
+pub fn password_at(payload: &[u8], at: usize) -> [u8; rules::PASSWORD]
+    ensures { λ r. ⌜ r ≡ passwordAt (now (payload .entry)) at ⌝ }
+{
+    let mut out = [0u8; rules::PASSWORD];
+    if payload.len() <= at {
+        return out;
+    }
+    store::copy(&mut out, 0, &payload[at..]);
+    out
 }
 
 // All bytes are compared.

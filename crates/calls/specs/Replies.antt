@@ -1,14 +1,16 @@
--- What the requests promise.
+-- What a reply leaves in the room, and what the requests promise.
 use Prim.Native.Nat.{ℕ, _+_}
 use mathlib.Core.Path.{_≡_}
-use mathlib.Core.List.{List, [], _++_}
-use mathlib.Core.Bool.{cond, _&&_}
-use lib.ListN.{length, take, drop}
-use lib.Dec.{leb, eqb}
+use mathlib.Core.List.{List, [], _∷_, _++_}
+use mathlib.Core.Bool.{cond, _&&_, _||_}
+use lib.ListN.{length, take, drop, replicate}
+use lib.Seq.{sets}
+use lib.Dec.{leb, ltb, eqb}
+use Rattle.frame.specs.Frame.{wire, maxData}
 use Rattle.frame.specs.Writing.{minRoom}
 use Rattle.nodes.specs.Table.{tableSize}
 use Rattle.rules.specs.declared.Hub.{Hub}
-use Rattle.rules.specs.Hub.{Reply, errorReply, frameError, passwordSize, Password, change}
+use Rattle.rules.specs.Hub.{Reply, frameError, passwordSize, Password, change}
 use Rattle.calls.specs.declared.Served.{Served}
 
 -- a reply stands at the room's front, its length is told, and what stood behind it stays
@@ -21,6 +23,14 @@ pub record RepliedAt (start : ℕ) (reply space : List ℕ) (n : ℕ) (left : Li
   pub len : n ≡ start + length reply
   pub content : left ≡ take start space ++ reply ++ drop (start + length reply) space
 
+-- a reply of one frame: its wire form; nothing in room below 512, nor of data above 250
+abbrev pub reply : List ℕ → ℕ → List ℕ → List ℕ
+reply room c d = cond (ltb (length room) minRoom || ltb maxData (length d)) [] (wire c d)
+
+-- one frame more, behind the first `start` bytes: its wire form; nothing where it does not fit, nor of data above 250
+abbrev pub replyAt : List ℕ → ℕ → ℕ → List ℕ → List ℕ
+replyAt room start c d = cond (ltb maxData (length d) || ltb (length room) (start + length (wire c d))) [] (wire c d)
+
 -- hub, table and reply are the definition's
 pub record Serves (x : Reply) (room : List ℕ) (r : Served) (t left : List ℕ) : Type 0 where
   pub hub : r .hub ≡ x .hub
@@ -32,6 +42,10 @@ pub record Answered (h : Hub) (reply : List ℕ) (room : List ℕ) (r : Served) 
   pub hub : r .hub ≡ h
   pub replied : Replied reply room (r .len) left
 
+-- the password in the data d from the place i on: 32 bytes, of which those that are missing are 0
+abbrev pub passwordAt : List ℕ → ℕ → List ℕ
+passwordAt d i = sets (replicate passwordSize 0) 0 (drop i d)
+
 -- password change by its data, the old and then the new
 abbrev pub changed : Hub → List ℕ → Password
 changed h d = change h (take passwordSize d) (drop passwordSize d)
@@ -42,4 +56,4 @@ served t room h x = cond (eqb (length t) tableSize && leb minRoom (length room))
 
 -- the error reply of a refused packet, where it has room
 abbrev pub refusal : List ℕ → List ℕ
-refusal room = cond (leb minRoom (length room)) (errorReply frameError) []
+refusal room = reply room 0x0000 (frameError ∷ [])

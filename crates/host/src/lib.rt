@@ -6,7 +6,7 @@ ghost use mathlib.Core.Path.{_≡_};
 ghost use lib.ListN.{length};
 ghost use Rattle.frame.specs.Writing.{minRoom};
 ghost use Rattle.calls.specs.Replies.{Replied};
-ghost use Rattle.rules.specs.Hub.{freshHub, firstHub, passwordSize, notice};
+ghost use Rattle.rules.specs.Hub.{freshHub, firstHub, notice};
 ghost use Rattle.rules.specs.Promises.{Starts, Enrols, Finishes};
 ghost use Rattle.calls.specs.Answers.{startedOf, enrolledOf, finishedOf};
 use calls::CallAnswer;
@@ -14,7 +14,6 @@ use calls::FinishAnswer;
 use calls::Finished;
 use calls::Refusal;
 use calls::Started;
-use frame::Written;
 use rules::Hub;
 use sessions::Told;
 
@@ -54,20 +53,11 @@ pub fn start(hub: Hub, table: &mut [u8], password: &[u8]) -> Started
         };
     }
     enrolment::empty(table);
-    let next = fresh(password_of(password));
+    let next = fresh(access::password_at(password, 0));
     Started {
         answer: CallAnswer::Done,
         hub: next,
     }
-}
-
-fn password_of(password: &[u8]) -> [u8; rules::PASSWORD]
-    requires { ⌜ length (now password) ≡ passwordSize ⌝ }
-    ensures { λ r. ⌜ r ≡ now (password .entry) ⌝ }
-{
-    let mut out = [0u8; rules::PASSWORD];
-    store::copy(&mut out, 0, password);
-    out
 }
 
 // A node comes into use, with its type.
@@ -123,9 +113,5 @@ fn notice(room: &mut [u8], session: u16) -> usize
     ensures { λ r. ⌜ Replied (notice session) (now (room .entry)) r (now (room .exit)) ⌝ }
 {
     let bytes = [(session / 256) as u8, (session % 256) as u8];
-    match writer::write(room, 0x0304, &bytes) {
-        Written::Length(n) => n,
-        Written::ShortRoom => 0,
-        Written::LongData => 0,
-    }
+    replying::reply(room, 0x0304, &bytes)
 }

@@ -4,19 +4,17 @@
 ghost use Prim.Native.Nat.{_+_, _≤_};
 ghost use mathlib.Core.Path.{_≡_};
 ghost use mathlib.Core.List.{[], _∷_};
-ghost use lib.ListN.{length, take, drop, getD};
-ghost use Rattle.frame.specs.Frame.{frame, maxData, wire};
+ghost use lib.ListN.{length, drop, getD};
+ghost use Rattle.frame.specs.Frame.{frame, wire};
 ghost use Rattle.frame.specs.Writing.{minRoom};
 ghost use Rattle.nodes.specs.Table.{tableSize, setName, setOrderAndPlacement, setVariation};
 ghost use Rattle.sessions.specs.Sessions.{closeAll};
 ghost use Rattle.directory.specs.declared.Verdict.the-variants.{Fits};
 ghost use Rattle.directory.specs.Lookup.{verdict};
-ghost use Rattle.rules.specs.Hub.{passwordSize, errorReply, enter, getNode, nodeReply, removeNodes, virginState, modeSend, request, mayAsk, serve};
-ghost use Rattle.calls.specs.Replies.{Replied, RepliedAt, Serves, Answered, changed, served, refusal};
+ghost use Rattle.rules.specs.Hub.{passwordSize, enter, getNode, nodeReply, removeNodes, virginState, modeSend, request, mayAsk, serve};
+ghost use Rattle.calls.specs.Replies.{Replied, Serves, Answered, changed, served, refusal};
 use calls::Served;
 use directory::Verdict;
-use frame::Written;
-use frame::WrittenAt;
 use rules::Hub;
 use sessions::Slot;
 
@@ -51,10 +49,7 @@ pub fn serve(
 pub fn refuse(room: &mut [u8]) -> usize
     ensures { λ r. ⌜ Replied (refusal (now (room .entry))) (now (room .entry)) r (now (room .exit)) ⌝ }
 {
-    if room.len() < frame::ROOM {
-        return 0;
-    }
-    fail(room, FRAME_ERROR)
+    replying::error(room, FRAME_ERROR)
 }
 
 // The order of document 01: command unknown, length outside its range, not logged in, not served.
@@ -71,11 +66,11 @@ fn judged(
 {
     match lookup::judge(command, payload.len()) {
         Verdict::Unknown => {
-            let n = fail(room, UNKNOWN_COMMAND);
+            let n = replying::error(room, UNKNOWN_COMMAND);
             Served { hub: hub, len: n }
         }
         Verdict::WrongLength => {
-            let n = fail(room, FRAME_ERROR);
+            let n = replying::error(room, FRAME_ERROR);
             Served { hub: hub, len: n }
         }
         Verdict::Fits => {
@@ -83,7 +78,7 @@ fn judged(
             if may_ask(logins, line, command) {
                 return request(hub, table, room, line, command, payload);
             }
-            let n = fail(room, NOT_LOGGED_IN);
+            let n = replying::error(room, NOT_LOGGED_IN);
             Served { hub: hub, len: n }
         }
     }
@@ -121,7 +116,7 @@ fn request(
         0x0108 => virgin_state(hub, table, room),
         0x0320 => mode_send(hub, table, room, line, payload),
         _ => {
-            let n = fail(room, UNKNOWN_COMMAND);
+            let n = replying::error(room, UNKNOWN_COMMAND);
             Served { hub: hub, len: n }
         }
     }
@@ -131,11 +126,11 @@ fn enter(hub: Hub, room: &mut [u8], line: u8, payload: &[u8]) -> Served
     requires { ⌜ (minRoom ≤ length (now room)) × (length (now payload) ≡ passwordSize) ⌝ }
     ensures { λ r. ⌜ Answered (enter hub line (now (payload .entry)) .hub) (wire 0x3001 (enter hub line (now (payload .entry)) .status ∷ [])) (now (room .entry)) r (now (room .exit)) ⌝ }
 {
-    let given = password_at(payload, 0);
+    let given = access::password_at(payload, 0);
     let entered = access::enter(hub, line, given);
     let next = entered.hub;
     let status = [entered.status];
-    let n = reply(room, 0x3001, &status);
+    let n = replying::reply(room, 0x3001, &status);
     Served { hub: next, len: n }
 }
 
@@ -143,22 +138,13 @@ fn change(hub: Hub, room: &mut [u8], payload: &[u8]) -> Served
     requires { ⌜ (minRoom ≤ length (now room)) × (length (now payload) ≡ passwordSize + passwordSize) ⌝ }
     ensures { λ r. ⌜ Answered (changed hub (now (payload .entry)) .hub) (wire 0x3003 (changed hub (now (payload .entry)) .status ∷ [])) (now (room .entry)) r (now (room .exit)) ⌝ }
 {
-    let old = password_at(payload, 0);
-    let new = password_at(payload, rules::PASSWORD);
+    let old = access::password_at(payload, 0);
+    let new = access::password_at(payload, rules::PASSWORD);
     let entered = access::change(hub, old, new);
     let next = entered.hub;
     let status = [entered.status];
-    let n = reply(room, 0x3003, &status);
+    let n = replying::reply(room, 0x3003, &status);
     Served { hub: next, len: n }
-}
-
-fn password_at(payload: &[u8], at: usize) -> [u8; rules::PASSWORD]
-    requires { ⌜ at + passwordSize ≤ length (now payload) ⌝ }
-    ensures { λ r. ⌜ r ≡ take passwordSize (drop at (now (payload .entry))) ⌝ }
-{
-    let mut out = [0u8; rules::PASSWORD];
-    store::copy(&mut out, 0, &payload[at..at + rules::PASSWORD]);
-    out
 }
 
 fn get_node(hub: Hub, table: &[u8], room: &mut [u8], node: u8) -> Served
@@ -167,15 +153,15 @@ fn get_node(hub: Hub, table: &[u8], room: &mut [u8], node: u8) -> Served
 {
     let informed = informing::information(table, node);
     if !informed.known {
-        let refused = confirm(room, 0x0201, nodes::INVALID_NODE, node);
+        let refused = replying::confirm(room, 0x0201, nodes::INVALID_NODE, node);
         return Served {
             hub: hub,
             len: refused,
         };
     }
-    let first = confirm(room, 0x0201, nodes::ACCEPTED, node);
+    let first = replying::confirm(room, 0x0201, nodes::ACCEPTED, node);
     let bytes = informed.bytes;
-    let n = reply_at(room, first, 0x0210, &bytes);
+    let n = replying::reply_at(room, first, 0x0210, &bytes);
     Served { hub: hub, len: n }
 }
 
@@ -185,7 +171,7 @@ fn set_variation(hub: Hub, table: &mut [u8], room: &mut [u8], payload: &[u8]) ->
 {
     let node = payload[0];
     let status = fields::set_variation(table, node, payload[1]);
-    let n = confirm(room, 0x0207, status, node);
+    let n = replying::confirm(room, 0x0207, status, node);
     Served { hub: hub, len: n }
 }
 
@@ -195,7 +181,7 @@ fn set_name(hub: Hub, table: &mut [u8], room: &mut [u8], payload: &[u8]) -> Serv
 {
     let node = payload[0];
     let status = fields::set_name(table, node, &payload[1..]);
-    let n = confirm(room, 0x0209, status, node);
+    let n = replying::confirm(room, 0x0209, status, node);
     Served { hub: hub, len: n }
 }
 
@@ -205,7 +191,7 @@ fn set_order_and_placement(hub: Hub, table: &mut [u8], room: &mut [u8], payload:
 {
     let node = payload[0];
     let status = fields::set_order_and_placement(table, node, &payload[1..]);
-    let n = confirm(room, 0x020E, status, node);
+    let n = replying::confirm(room, 0x020E, status, node);
     Served { hub: hub, len: n }
 }
 
@@ -217,7 +203,7 @@ fn remove_nodes(hub: Hub, table: &mut [u8], room: &mut [u8], bits: &[u8]) -> Ser
     let left = closing::close_removed(slots, table, bits);
     table::remove(table, bits);
     let scene_deleted = [0];
-    let n = reply(room, 0x0107, &scene_deleted);
+    let n = replying::reply(room, 0x0107, &scene_deleted);
     let next = access::with_slots(hub, left);
     Served { hub: next, len: n }
 }
@@ -228,7 +214,7 @@ fn virgin_state(hub: Hub, table: &mut [u8], room: &mut [u8]) -> Served
 {
     enrolment::empty(table);
     let nothing: [u8; 0] = [];
-    let n = reply(room, 0x0109, &nothing);
+    let n = replying::reply(room, 0x0109, &nothing);
     let slots = hub.slots;
     let left = close_all(slots);
     let next = access::with_slots(hub, left);
@@ -250,49 +236,7 @@ fn mode_send(hub: Hub, table: &[u8], room: &mut [u8], line: u8, payload: &[u8]) 
     let sent = opening::mode_send(slots, table, line, asked);
     let left = sent.slots;
     let confirm = [payload[0], payload[1], sent.status];
-    let n = reply(room, 0x0321, &confirm);
+    let n = replying::reply(room, 0x0321, &confirm);
     let next = access::with_slots(hub, left);
     Served { hub: next, len: n }
-}
-
-// The error frame with one byte.
-fn fail(room: &mut [u8], error: u8) -> usize
-    requires { ⌜ minRoom ≤ length (now room) ⌝ }
-    ensures { λ r. ⌜ Replied (errorReply error) (now (room .entry)) r (now (room .exit)) ⌝ }
-{
-    let bytes = [error];
-    reply(room, 0x0000, &bytes)
-}
-
-// A confirm with status and node.
-fn confirm(room: &mut [u8], command: u16, status: u8, node: u8) -> usize
-    requires { ⌜ minRoom ≤ length (now room) ⌝ }
-    ensures { λ r. ⌜ Replied (wire command (status ∷ node ∷ [])) (now (room .entry)) r (now (room .exit)) ⌝ }
-{
-    let bytes = [status, node];
-    reply(room, command, &bytes)
-}
-
-// One frame at the room's front.
-fn reply(room: &mut [u8], command: u16, payload: &[u8]) -> usize
-    requires { ⌜ (minRoom ≤ length (now room)) × (length (now payload) ≤ maxData) ⌝ }
-    ensures { λ r. ⌜ Replied (wire command (now (payload .entry))) (now (room .entry)) r (now (room .exit)) ⌝ }
-{
-    match writer::write(room, command, payload) {
-        Written::Length(n) => n,
-        Written::ShortRoom => 0,
-        Written::LongData => 0,
-    }
-}
-
-// One frame more behind the first.
-fn reply_at(room: &mut [u8], start: usize, command: u16, payload: &[u8]) -> usize
-    requires { ⌜ (start + length (wire command (now payload)) ≤ length (now room)) × (length (now payload) ≤ maxData) ⌝ }
-    ensures { λ r. ⌜ RepliedAt start (wire command (now (payload .entry))) (now (room .entry)) r (now (room .exit)) ⌝ }
-{
-    match writer::write_at(room, start, command, payload) {
-        WrittenAt::UpTo(n) => n,
-        WrittenAt::NoFit => start,
-        WrittenAt::LongData => start,
-    }
 }

@@ -1,3 +1,5 @@
+use Rattle.access.specs.PasswordAt.{passwordAt-all}
+use mathlib.Core.Path.{_∙_}
 use borrow.Author.Tests.{eq-eqb, ne-eqb}
 use borrow.Author.Needs.{needs}
 use Rattle.host.proofs.start.Statement.{statement}
@@ -5,7 +7,7 @@ use Rattle.host.proofs.start.Tie as tie
 use Rattle.host.proofs.start.Reads as reads
 use Rattle.host.proofs.start.Lts as lts
 use Rattle.host.proofs.fresh.Reads as fresh-reads
-use Rattle.host.proofs.password_of.Reads as password-of-reads
+use Rattle.access.proofs.password_at.Reads as password-at-reads
 use Rattle.enrolment.proofs.empty.Reads as empty-reads
 
 -- src/lib.rt:104:9
@@ -21,8 +23,8 @@ empty-requires : tie.Need-empty-requires
 empty-requires c κs = search needs
 
 -- src/lib.rt:116:22
-password-of-requires : tie.Need-password-of-requires
-password-of-requires c κs = search needs
+password-at-requires : tie.Need-password-at-requires
+password-at-requires c κs = search needs
 
 -- src/lib.rt:116:9
 fresh-requires : tie.Need-fresh-requires
@@ -34,7 +36,7 @@ same-length c = search needs
 
 -- src/lib.rt:100:1
 returns-3 : tie.Need-returns-3
-returns-3 c = simp (eq-eqb _ _ (c .before .before .before .before .before .before .before .if1 .left), eq-eqb _ _ (c .before .before .before .before .before .before .if2 .left), c .before .before .before .before .empty .ensures, c .fresh .ensures, c .before .password-of .ensures)
+returns-3 c = simp (eq-eqb _ _ (c .before .before .before .before .before .before .before .if1 .left), eq-eqb _ _ (c .before .before .before .before .before .before .if2 .left), c .before .before .before .before .empty .ensures, c .fresh .ensures, c .before .password-at .ensures ∙ passwordAt-all (c .before .before .before .before .before .before .before .before .before .before .args .password .now) (c .before .before .before .before .before .before .if2 .left))
 
 pub start-spec : {M : Type 1} → statement M
 start-spec =
@@ -43,7 +45,7 @@ start-spec =
     returns
     returns-2
     empty-requires
-    password-of-requires
+    password-at-requires
     fresh-requires
     same-length
     returns-3)

@@ -1,6 +1,6 @@
-use Rattle.rules.specs.Hub.{passwordSize}
+use Rattle.calls.specs.ReplyLaws.{replied-whole}
+use Rattle.access.specs.PasswordAt.{passwordAt-all}
 use native.Mathlib.Omega.{arith}
-use lib.Seq.{take-all}
 use mathlib.Core.Path.{_∙_}
 use borrow.Author.Needs.{needs}
 use Rattle.requests.proofs.enter.Statement.{statement}
@@ -8,8 +8,8 @@ use Rattle.requests.proofs.enter.Tie as tie
 use Rattle.requests.proofs.enter.Reads as reads
 use Rattle.requests.proofs.enter.Lts as lts
 use Rattle.access.proofs.enter.Reads as enter-reads
-use Rattle.requests.proofs.password_at.Reads as password-at-reads
-use Rattle.requests.proofs.reply.Reads as reply-reads
+use Rattle.access.proofs.password_at.Reads as password-at-reads
+use Rattle.replying.proofs.reply.Reads as reply-reads
 
 -- src/lib.rt:50:9
 password-at-requires : tie.Need-password-at-requires
@@ -35,9 +35,9 @@ same-length c = search needs
 returns : tie.Need-returns
 returns c =
     let d = c .before .before .before .before .before .before .before .before .before .before .args .payload .now in
-    let e = c .before .before .before .before .before .before .before .password-at .ensures ∙ take-all passwordSize d (omega (arith, c .before .before .before .before .before .before .before .before .before .before .pre .1)) in
+    let e = c .before .before .before .before .before .before .before .password-at .ensures ∙ passwordAt-all d (c .before .before .before .before .before .before .before .before .before .before .pre .1) in
     let x = rw e at (c .before .before .before .before .before .before .enter .ensures) in
-    record { hub = x .hub; replied = rw (x .status) at (c .before .before .reply .ensures) }
+    record { hub = x .hub; replied = replied-whole _ _ _ _ _ (c .before .before .before .before .before .before .before .before .before .before .pre .0) (omega arith) (rw (x .status) at (c .before .before .reply .ensures)) }
 
 pub enter-spec : {M : Type 1} → statement M
 enter-spec =

@@ -1,8 +1,8 @@
-use Rattle.calls.specs.ReplyLaws.{both-replied, replied-length}
+use Rattle.calls.specs.ReplyLaws.{replied-whole, placed-whole, both-replied, replied-length}
 use Rattle.rules.specs.Hub.{getNode}
 use Rattle.nodes.specs.declared.Informed.{Informed}
 use Rattle.nodes.specs.TableLaws.{informed-known, informed-bytes, information-length, used-below}
-use Rattle.nodes.specs.Table.{inUse}
+use Rattle.nodes.specs.Table.{inUse, information}
 use Rattle.frame.specs.WireLaws.{wire-short}
 use borrow.Author.Tests.{not-true, not-false}
 use lib.ListN.{length}
@@ -15,8 +15,8 @@ use Rattle.requests.proofs.get_node.Tie as tie
 use Rattle.requests.proofs.get_node.Reads as reads
 use Rattle.requests.proofs.get_node.Lts as lts
 use Rattle.informing.proofs.information.Reads as information-reads
-use Rattle.requests.proofs.confirm.Reads as confirm-reads
-use Rattle.requests.proofs.reply_at.Reads as reply-at-reads
+use Rattle.replying.proofs.confirm.Reads as confirm-reads
+use Rattle.replying.proofs.reply_at.Reads as reply-at-reads
 
 -- whether the node is known is whether it is in use
 known : (c : tie.After-information) → c .information .result .known ≡ inUse (c .before .before .before .args .table .now) (c .before .before .before .args .node)
@@ -37,7 +37,7 @@ same-length c = search needs
 -- src/lib.rt:87:9
 returns : tie.Need-returns
 unfolding getNode
-returns c = rw (sym (known (c .before .before .before .before .before .before)) ∙ not-true _ (c .before .before .before .before .if1 .taken)) (record { hub = refl; replied = c .before .before .confirm .ensures })
+returns c = rw (sym (known (c .before .before .before .before .before .before)) ∙ not-true _ (c .before .before .before .before .if1 .taken)) (record { hub = refl; replied = replied-whole _ _ _ _ _ (c .before .before .before .before .before .before .before .before .before .pre .1) (omega arith) (c .before .before .confirm .ensures) })
 
 -- src/lib.rt:89:9
 confirm-requires-2 : tie.Need-confirm-requires-2
@@ -49,14 +49,7 @@ slice-aggregate-reply-at c = search needs
 
 -- src/lib.rt:91:9
 reply-at-requires : tie.Need-reply-at-requires
-reply-at-requires c κs =
-    let used = sym (known (c .before .before .before .before .before .before .before .before .before)) ∙ not-false _ (c .before .before .before .before .before .before .before .if1 .left) in
-    let bytes = ap (λ (x : Informed). x .bytes) (c .before .before .before .before .before .before .before .before .before .information .ensures) ∙ informed-bytes _ _ (c .before .before .before .before .before .before .before .before .before .before .before .before .pre .0) used in
-    let long = ap length bytes ∙ information-length _ _ (c .before .before .before .before .before .before .before .before .before .before .before .before .pre .0) (used-below _ _ used) in
-    let first = c .before .before .before .before .before .confirm2 .ensures .len in
-    let short = wire-short 0x0201 (0 ∷ c .before .before .before .before .before .before .before .before .before .before .before .before .args .node ∷ []) in
-    let left = replied-length _ _ _ _ (omega (arith, c .before .before .before .before .before .before .before .before .before .before .before .before .pre .1, first, short)) (c .before .before .before .before .before .confirm2 .ensures) in
-    (omega (arith, c .before .before .before .before .before .before .before .before .before .before .before .before .pre .1, long, left, first, short, wire-short 0x0210 (c .before .before .before .before .before .before .before .before .before .information .result .bytes)), omega (arith, long))
+reply-at-requires c κs = search needs
 
 -- src/lib.rt:80:1
 same-length-2 : tie.Need-same-length-2
@@ -68,7 +61,15 @@ unfolding getNode
 returns-2 c =
     let used = sym (known (c .before .before .before .before .before .before .before .before .before .before .before .before)) ∙ not-false _ (c .before .before .before .before .before .before .before .before .before .before .if1 .left) in
     let bytes = ap (λ (x : Informed). x .bytes) (c .before .before .before .before .before .before .before .before .before .before .before .before .information .ensures) ∙ informed-bytes _ _ (c .before .before .before .before .before .before .before .before .before .before .before .before .before .before .before .pre .0) used in
-    rw used (record { hub = refl; replied = both-replied _ _ _ _ _ _ _ (c .before .before .before .before .before .before .before .before .confirm2 .ensures) (rw bytes at (c .before .before .reply-at .ensures)) })
+    let long = information-length (c .before .before .before .before .before .before .before .before .before .before .before .before .before .before .before .args .table .now) (c .before .before .before .before .before .before .before .before .before .before .before .before .before .before .before .args .node) (c .before .before .before .before .before .before .before .before .before .before .before .before .before .before .before .pre .0) (used-below _ _ used) in
+    let first = replied-whole _ (0 ∷ c .before .before .before .before .before .before .before .before .before .before .before .before .before .before .before .args .node ∷ []) _ _ _ (c .before .before .before .before .before .before .before .before .before .before .before .before .before .before .before .pre .1) (omega arith) (c .before .before .before .before .before .before .before .before .confirm2 .ensures) in
+    let short = wire-short 0x0201 (0 ∷ c .before .before .before .before .before .before .before .before .before .before .before .before .before .before .before .args .node ∷ []) in
+    let left = replied-length _ _ _ _ (omega (arith, c .before .before .before .before .before .before .before .before .before .before .before .before .before .before .before .pre .1, first .len, short)) first in
+    let second = wire-short 0x0210 (information (c .before .before .before .before .before .before .before .before .before .before .before .before .before .before .before .args .table .now) (c .before .before .before .before .before .before .before .before .before .before .before .before .before .before .before .args .node)) in
+    rw used (record {
+      hub = refl;
+      replied = both-replied _ _ _ _ _ _ _ first (placed-whole _ _ _ _ _ _ (omega (arith, c .before .before .before .before .before .before .before .before .before .before .before .before .before .before .before .pre .1, long, left, first .len, short, second)) (omega (arith, long)) (rw bytes at (c .before .before .reply-at .ensures)));
+    })
 
 pub get-node-spec : {M : Type 1} → statement M
 get-node-spec =

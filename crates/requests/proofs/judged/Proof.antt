@@ -1,3 +1,5 @@
+use Rattle.calls.specs.ReplyLaws.{replied-whole}
+use native.Mathlib.Omega.{arith}
 use Rattle.rules.specs.Hub.{serve}
 use mathlib.Core.Path.{refl, sym, _∙_}
 use borrow.Author.Needs.{needs}
@@ -6,7 +8,7 @@ use Rattle.requests.proofs.judged.Tie as tie
 use Rattle.requests.proofs.judged.Reads as reads
 use Rattle.requests.proofs.judged.Lts as lts
 use Rattle.lookup.proofs.judge.Reads as judge-reads
-use Rattle.requests.proofs.fail.Reads as fail-reads
+use Rattle.replying.proofs.error.Reads as error-reads
 use Rattle.requests.proofs.may_ask.Reads as may-ask-reads
 use Rattle.requests.proofs.request.Reads as request-reads
 
@@ -19,16 +21,16 @@ enum-told : tie.Need-enum-told
 enum-told c = search needs
 
 -- src/lib.rt:57:17
-fail-requires : tie.Need-fail-requires
-fail-requires c κs = search needs
+error-requires : tie.Need-error-requires
+error-requires c κs = search needs
 
 -- src/lib.rt:61:26
 enum-told-2 : tie.Need-enum-told-2
 enum-told-2 c = search needs
 
 -- src/lib.rt:61:17
-fail-requires-2 : tie.Need-fail-requires-2
-fail-requires-2 c κs = search needs
+error-requires-2 : tie.Need-error-requires-2
+error-requires-2 c κs = search needs
 
 -- src/lib.rt:65:17
 enum-told-3 : tie.Need-enum-told-3
@@ -56,8 +58,8 @@ unfolding serve
 returns c = rw (sym (c .before .before .before .before .before .before .before .before .before .before .before .before .judge .ensures) ∙ c .before .before .before .before .before .before .before .before .before .before .enum-told3 .given .1, sym (c .before .before .before .before .before .before .before .before .may-ask .ensures) ∙ c .before .before .before .before .before .before .before .if1 .taken) (c .before .before .before .before .request .ensures)
 
 -- src/lib.rt:69:17
-fail-requires-3 : tie.Need-fail-requires-3
-fail-requires-3 c κs = search needs
+error-requires-3 : tie.Need-error-requires-3
+error-requires-3 c κs = search needs
 
 -- src/lib.rt:51:1
 same-length-3 : tie.Need-same-length-3
@@ -66,7 +68,7 @@ same-length-3 c = search needs
 -- src/lib.rt:51:1
 returns-2 : tie.Need-returns-2
 unfolding serve
-returns-2 c = rw (sym (c .before .before .before .before .before .before .judge .ensures) ∙ c .before .before .before .before .enum-told .given .1) (record { hub = refl; table = refl; replied = c .before .before .fail .ensures })
+returns-2 c = rw (sym (c .before .before .before .before .before .before .judge .ensures) ∙ c .before .before .before .before .enum-told .given .1) (record { hub = refl; table = refl; replied = replied-whole _ _ _ _ _ (c .before .before .before .before .before .before .before .before .before .before .pre .1) (omega arith) (c .before .before .error .ensures) })
 
 -- src/lib.rt:51:1
 same-length-4 : tie.Need-same-length-4
@@ -75,7 +77,7 @@ same-length-4 c = search needs
 -- src/lib.rt:51:1
 returns-3 : tie.Need-returns-3
 unfolding serve
-returns-3 c = rw (sym (c .before .before .before .before .before .before .judge .ensures) ∙ c .before .before .before .before .enum-told2 .given .1) (record { hub = refl; table = refl; replied = c .before .before .fail2 .ensures })
+returns-3 c = rw (sym (c .before .before .before .before .before .before .judge .ensures) ∙ c .before .before .before .before .enum-told2 .given .1) (record { hub = refl; table = refl; replied = replied-whole _ _ _ _ _ (c .before .before .before .before .before .before .before .before .before .before .pre .1) (omega arith) (c .before .before .error2 .ensures) })
 
 -- src/lib.rt:51:1
 same-length-5 : tie.Need-same-length-5
@@ -84,7 +86,7 @@ same-length-5 c = search needs
 -- src/lib.rt:51:1
 returns-4 : tie.Need-returns-4
 unfolding serve
-returns-4 c = rw (sym (c .before .before .before .before .before .before .before .before .before .judge .ensures) ∙ c .before .before .before .before .before .before .before .enum-told3 .given .1, sym (c .before .before .before .before .before .may-ask .ensures) ∙ c .before .before .before .before .if1 .left) (record { hub = refl; table = refl; replied = c .before .before .fail3 .ensures })
+returns-4 c = rw (sym (c .before .before .before .before .before .before .before .before .before .judge .ensures) ∙ c .before .before .before .before .before .before .before .enum-told3 .given .1, sym (c .before .before .before .before .before .may-ask .ensures) ∙ c .before .before .before .before .if1 .left) (record { hub = refl; table = refl; replied = replied-whole _ _ _ _ _ (c .before .before .before .before .before .before .before .before .before .before .before .before .before .pre .1) (omega arith) (c .before .before .error3 .ensures) })
 
 pub judged-spec : {M : Type 1} → statement M
 judged-spec =
@@ -92,16 +94,16 @@ judged-spec =
     (tie.spec
     judge-requires
     enum-told
-    fail-requires
+    error-requires
     enum-told-2
-    fail-requires-2
+    error-requires-2
     enum-told-3
     may-ask-requires
     request-requires
     same-length
     same-length-2
     returns
-    fail-requires-3
+    error-requires-3
     same-length-3
     returns-2
     same-length-4

@@ -1,3 +1,5 @@
+use Rattle.calls.specs.ReplyLaws.{replied-whole}
+use native.Mathlib.Omega.{arith}
 use Rattle.rules.specs.Hub.{modeSend, withSlots}
 use Rattle.sessions.specs.declared.Sent.{Sent}
 use mathlib.Core.Path.{_∙_, ap}
@@ -6,7 +8,7 @@ use Rattle.requests.proofs.mode_send.Statement.{statement}
 use Rattle.requests.proofs.mode_send.Tie as tie
 use Rattle.requests.proofs.mode_send.Reads as reads
 use Rattle.requests.proofs.mode_send.Lts as lts
-use Rattle.requests.proofs.reply.Reads as reply-reads
+use Rattle.replying.proofs.reply.Reads as reply-reads
 use Rattle.access.proofs.with_slots.Reads as with-slots-reads
 use Rattle.opening.proofs.mode_send.Reads as mode-send-reads
 use Rattle.asked.proofs.request.Reads as request-reads
@@ -48,7 +50,7 @@ returns : tie.Need-returns
 unfolding modeSend
 returns c =
     let x = rw (c .before .before .before .before .before .before .before .before .before .before .request .ensures) at (c .before .before .before .before .before .before .before .before .before .mode-send .ensures) in
-    record { hub = c .with-slots .ensures ∙ ap (λ (s : Sent). withSlots (c .before .before .before .before .before .before .before .before .before .before .before .before .before .before .before .args .hub) (s .slots)) x; replied = rw (ap (λ (s : Sent). s .status) x) at (c .before .before .before .reply .ensures) }
+    record { hub = c .with-slots .ensures ∙ ap (λ (s : Sent). withSlots (c .before .before .before .before .before .before .before .before .before .before .before .before .before .before .before .args .hub) (s .slots)) x; replied = replied-whole _ _ _ _ _ (c .before .before .before .before .before .before .before .before .before .before .before .before .before .before .before .pre .0) (omega arith) (rw (ap (λ (s : Sent). s .status) x) at (c .before .before .before .reply .ensures)) }
 
 pub mode-send-spec : {M : Type 1} → statement M
 mode-send-spec =

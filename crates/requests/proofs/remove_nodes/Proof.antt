@@ -1,3 +1,5 @@
+use Rattle.calls.specs.ReplyLaws.{replied-whole}
+use native.Mathlib.Omega.{arith}
 use Rattle.rules.specs.Hub.{removeNodes, withSlots}
 use mathlib.Core.Path.{_∙_, ap}
 use borrow.Author.Needs.{needs}
@@ -6,7 +8,7 @@ use Rattle.requests.proofs.remove_nodes.Tie as tie
 use Rattle.requests.proofs.remove_nodes.Reads as reads
 use Rattle.requests.proofs.remove_nodes.Lts as lts
 use Rattle.table.proofs.remove.Reads as remove-reads
-use Rattle.requests.proofs.reply.Reads as reply-reads
+use Rattle.replying.proofs.reply.Reads as reply-reads
 use Rattle.access.proofs.with_slots.Reads as with-slots-reads
 use Rattle.closing.proofs.close_removed.Reads as close-removed-reads
 
@@ -41,7 +43,7 @@ same-length-2 c = search needs
 -- src/lib.rt:185:1
 returns : tie.Need-returns
 unfolding removeNodes
-returns c = record { hub = c .with-slots .ensures ∙ ap (withSlots (c .before .before .before .before .before .before .before .before .before .before .before .before .before .before .before .before .args .hub)) (c .before .before .before .before .before .before .before .before .before .before .close-removed .ensures); table = c .before .before .before .before .before .before .before .before .remove .ensures; replied = c .before .before .before .reply .ensures }
+returns c = record { hub = c .with-slots .ensures ∙ ap (withSlots (c .before .before .before .before .before .before .before .before .before .before .before .before .before .before .before .before .args .hub)) (c .before .before .before .before .before .before .before .before .before .before .close-removed .ensures); table = c .before .before .before .before .before .before .before .before .remove .ensures; replied = replied-whole _ _ _ _ _ (c .before .before .before .before .before .before .before .before .before .before .before .before .before .before .before .before .pre) (omega arith) (c .before .before .before .reply .ensures) }
 
 pub remove-nodes-spec : {M : Type 1} → statement M
 remove-nodes-spec =

@@ -1,3 +1,4 @@
+use Rattle.calls.specs.ReplyLaws.{replied-whole}
 use Rattle.requests.proofs.Laws.{enter-size, change-size, get-size, variation-size, name-size, order-size, mode-send-size, getNode-kept}
 use Rattle.rules.specs.Hub.{request, modeSend}
 use borrow.Author.Tests.{ne-eqb}
@@ -11,7 +12,7 @@ use Rattle.requests.proofs.request.Reads as reads
 use Rattle.requests.proofs.request.Lts as lts
 use Rattle.requests.proofs.change.Reads as change-reads
 use Rattle.requests.proofs.enter.Reads as enter-reads
-use Rattle.requests.proofs.fail.Reads as fail-reads
+use Rattle.replying.proofs.error.Reads as error-reads
 use Rattle.requests.proofs.get_node.Reads as get-node-reads
 use Rattle.requests.proofs.mode_send.Reads as mode-send-reads
 use Rattle.requests.proofs.remove_nodes.Reads as remove-nodes-reads
@@ -61,8 +62,8 @@ mode-send-requires : tie.Need-mode-send-requires
 mode-send-requires c κs = let n = mode-send-size _ (rw (c .before .before .match .keys9) at (c .before .before .before .before .before .before .pre .2)) in (c .before .before .before .before .before .before .pre .1, omega arith)
 
 -- src/lib.rt:100:17
-fail-requires : tie.Need-fail-requires
-fail-requires c κs = search needs
+error-requires : tie.Need-error-requires
+error-requires c κs = search needs
 
 -- src/lib.rt:85:1
 same-length : tie.Need-same-length
@@ -185,7 +186,7 @@ unfolding request
 returns-10 c =
     let n = c .before .before .before .before .match .rest in
     rw (ne-eqb _ _ (n .0 .0 .0 .0 .0 .0 .0 .0 .1), ne-eqb _ _ (n .0 .0 .0 .0 .0 .0 .0 .1), ne-eqb _ _ (n .0 .0 .0 .0 .0 .0 .1), ne-eqb _ _ (n .0 .0 .0 .0 .0 .1), ne-eqb _ _ (n .0 .0 .0 .0 .1), ne-eqb _ _ (n .0 .0 .0 .1), ne-eqb _ _ (n .0 .0 .1), ne-eqb _ _ (n .0 .1), ne-eqb _ _ (n .1))
-    (record { hub = refl; table = refl; replied = c .before .before .fail .ensures })
+    (record { hub = refl; table = refl; replied = replied-whole _ _ _ _ _ (c .before .before .before .before .before .before .before .before .pre .1) (omega arith) (c .before .before .error .ensures) })
 
 pub request-spec : {M : Type 1} → statement M
 request-spec =
@@ -201,7 +202,7 @@ request-spec =
     remove-nodes-requires
     virgin-state-requires
     mode-send-requires
-    fail-requires
+    error-requires
     same-length
     returns
     same-length-2

@@ -1,3 +1,5 @@
+use Rattle.calls.specs.ReplyLaws.{replied-whole}
+use native.Mathlib.Omega.{arith}
 use Rattle.store.specs.WroteLaws.{rest}
 use mathlib.Core.Path.{refl}
 use borrow.Author.Needs.{needs}
@@ -6,7 +8,7 @@ use Rattle.requests.proofs.set_order_and_placement.Tie as tie
 use Rattle.requests.proofs.set_order_and_placement.Reads as reads
 use Rattle.requests.proofs.set_order_and_placement.Lts as lts
 use Rattle.fields.proofs.set_order_and_placement.Reads as set-order-and-placement-reads
-use Rattle.requests.proofs.confirm.Reads as confirm-reads
+use Rattle.replying.proofs.confirm.Reads as confirm-reads
 
 -- src/lib.rt:119:16
 shared-slice-read-node : tie.Need-shared-slice-read-node
@@ -44,7 +46,7 @@ same-length-2 c = search needs
 returns : tie.Need-returns
 returns c =
     let x = rw (rest (c .before .before .before .before .before .before .before .before .before .before .before .before .before .args .payload .now) 1) at (c .before .before .before .before .before .before .set-order-and-placement .ensures) in
-    record { hub = refl; table = x .table; replied = rw (x .status) at (c .before .before .confirm .ensures) }
+    record { hub = refl; table = x .table; replied = replied-whole _ _ _ _ _ (c .before .before .before .before .before .before .before .before .before .before .before .before .before .pre .0) (omega arith) (rw (x .status) at (c .before .before .confirm .ensures)) }
 
 pub set-order-and-placement-spec : {M : Type 1} → statement M
 set-order-and-placement-spec =

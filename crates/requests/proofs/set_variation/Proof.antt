@@ -1,3 +1,5 @@
+use Rattle.calls.specs.ReplyLaws.{replied-whole}
+use native.Mathlib.Omega.{arith}
 use mathlib.Core.Path.{refl}
 use borrow.Author.Needs.{needs}
 use Rattle.requests.proofs.set_variation.Statement.{statement}
@@ -5,7 +7,7 @@ use Rattle.requests.proofs.set_variation.Tie as tie
 use Rattle.requests.proofs.set_variation.Reads as reads
 use Rattle.requests.proofs.set_variation.Lts as lts
 use Rattle.fields.proofs.set_variation.Reads as set-variation-reads
-use Rattle.requests.proofs.confirm.Reads as confirm-reads
+use Rattle.replying.proofs.confirm.Reads as confirm-reads
 
 -- src/lib.rt:99:16
 shared-slice-read-node : tie.Need-shared-slice-read-node
@@ -35,7 +37,7 @@ same-length-2 c = search needs
 returns : tie.Need-returns
 returns c =
     let x = c .before .before .before .before .before .before .set-variation .ensures in
-    record { hub = refl; table = x .table; replied = rw (x .status) at (c .before .before .confirm .ensures) }
+    record { hub = refl; table = x .table; replied = replied-whole _ _ _ _ _ (c .before .before .before .before .before .before .before .before .before .before .before .before .before .pre .0) (omega arith) (rw (x .status) at (c .before .before .confirm .ensures)) }
 
 pub set-variation-spec : {M : Type 1} → statement M
 set-variation-spec =

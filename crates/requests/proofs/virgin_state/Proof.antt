@@ -1,3 +1,5 @@
+use Rattle.calls.specs.ReplyLaws.{replied-whole}
+use native.Mathlib.Omega.{arith}
 use Rattle.rules.specs.Hub.{virginState, withSlots}
 use mathlib.Core.Path.{_∙_, ap}
 use borrow.Author.Needs.{needs}
@@ -7,7 +9,7 @@ use Rattle.requests.proofs.virgin_state.Reads as reads
 use Rattle.requests.proofs.virgin_state.Lts as lts
 use Rattle.enrolment.proofs.empty.Reads as empty-reads
 use Rattle.requests.proofs.close_all.Reads as close-all-reads
-use Rattle.requests.proofs.reply.Reads as reply-reads
+use Rattle.replying.proofs.reply.Reads as reply-reads
 use Rattle.access.proofs.with_slots.Reads as with-slots-reads
 
 -- src/lib.rt:203:5
@@ -42,7 +44,7 @@ same-length-2 c = search needs
 returns : tie.Need-returns
 unfolding virginState
 returns c =
-    record { hub = c .with-slots .ensures ∙ ap (withSlots (c .before .before .before .before .before .before .before .before .before .before .before .before .before .before .args .hub)) (c .before .close-all .ensures); table = c .before .before .before .before .before .before .before .before .before .before .empty .ensures; replied = c .before .before .before .before .before .reply .ensures }
+    record { hub = c .with-slots .ensures ∙ ap (withSlots (c .before .before .before .before .before .before .before .before .before .before .before .before .before .before .args .hub)) (c .before .close-all .ensures); table = c .before .before .before .before .before .before .before .before .before .before .empty .ensures; replied = replied-whole _ _ _ _ _ (c .before .before .before .before .before .before .before .before .before .before .before .before .before .before .pre) (omega arith) (c .before .before .before .before .before .reply .ensures) }
 
 pub virgin-state-spec : {M : Type 1} → statement M
 virgin-state-spec =
