@@ -1,8 +1,7 @@
-// The hub's state: password enter and change, who is logged in, and the sessions put back (document 01, "What the commands do").
-// Answers and hubs are the definition's: crate rules, specs/Hub.antt. It stands on the hub's rules.
+// The hub's state: password enter and change, and the sessions put back (document 01, "What the commands do").
+// Answers and hubs are the definition's: crate rules, specs/Hub.antt. It stands on the hub's rules and the lines' logins.
 ghost use mathlib.Core.Path.{_≡_};
-ghost use lib.ListN.{set};
-ghost use Rattle.rules.specs.Hub.{same, enter, change, withSlots, isListed};
+ghost use Rattle.rules.specs.Hub.{same, enter, change, withSlots};
 ghost use Rattle.access.specs.Answers.{Enters};
 ghost use Rattle.calls.specs.Replies.{passwordAt};
 use rules::Hub;
@@ -31,7 +30,7 @@ pub fn enter(hub: Hub, line: u8, given: [u8; rules::PASSWORD]) -> Entered
         };
     }
     let before = hub.logins;
-    let logins = with_login(before, line, true);
+    let logins = logins::with_login(before, line, true);
     let slots = hub.slots;
     let next = Hub {
         password: password,
@@ -66,30 +65,6 @@ pub fn change(hub: Hub, old: [u8; rules::PASSWORD], new: [u8; rules::PASSWORD]) 
         status: CORRECT,
         hub: next,
     }
-}
-
-// Whether a line is logged in.
-pub fn is_logged_in(logins: [bool; rules::LINES], line: u8) -> bool
-    ensures { λ r. ⌜ r ≡ isListed logins line ⌝ }
-{
-    let k = line as usize;
-    if rules::LINES <= k {
-        return false;
-    }
-    logins[k]
-}
-
-// A line is logged in or out; there is no line above 3.
-pub fn with_login(logins: [bool; rules::LINES], line: u8, value: bool) -> [bool; rules::LINES]
-    ensures { λ r. ⌜ r ≡ set logins line value ⌝ }
-{
-    let k = line as usize;
-    if rules::LINES <= k {
-        return logins;
-    }
-    let mut out = logins;
-    out[k] = value;
-    out
 }
 
 // The hub with other sessions.

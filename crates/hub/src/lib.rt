@@ -50,7 +50,7 @@ fn closed_line(hub: Hub, line: u8) -> Hub
     let password = hub.password;
     let before = hub.logins;
     let opened = hub.slots;
-    let logins = access::with_login(before, line, false);
+    let logins = logins::with_login(before, line, false);
     let slots = closing::close_line(opened, line);
     Hub {
         password: password,

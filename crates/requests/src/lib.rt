@@ -87,7 +87,7 @@ fn judged(
 fn may_ask(logins: [bool; rules::LINES], line: u8, command: u16) -> bool
     ensures { λ r. ⌜ r ≡ mayAsk logins line command ⌝ }
 {
-    if access::is_logged_in(logins, line) {
+    if logins::is_logged_in(logins, line) {
         return true;
     }
     command == 0x3000

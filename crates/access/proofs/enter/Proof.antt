@@ -7,7 +7,7 @@ use Rattle.access.proofs.enter.Tie as tie
 use Rattle.access.proofs.enter.Reads as reads
 use Rattle.access.proofs.enter.Lts as lts
 use Rattle.access.proofs.same.Reads as same-reads
-use Rattle.access.proofs.with_login.Reads as with-login-reads
+use Rattle.logins.proofs.with_login.Reads as with-login-reads
 
 -- src/lib.rt:20:9
 same-requires : tie.Need-same-requires

@@ -3,8 +3,6 @@ use Rattle.hub.proofs.closed_line.Statement.{statement}
 use Rattle.hub.proofs.closed_line.Tie as tie
 use Rattle.hub.proofs.closed_line.Reads as reads
 use Rattle.hub.proofs.closed_line.Lts as lts
-use Rattle.access.proofs.with_login.Reads as with-login-reads
-use Rattle.closing.proofs.close_line.Reads as close-line-reads
 
 -- src/lib.rt:175:9
 with-login-requires : tie.Need-with-login-requires

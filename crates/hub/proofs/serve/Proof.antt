@@ -1,3 +1,4 @@
+use Rattle.calls.specs.ReplyLaws.{replied-whole}
 use Rattle.rules.specs.Hub.{serve}
 use Rattle.feeds.specs.System.{serveIf}
 use borrow.Author.Tests.{eq-eqb, le-leb}
@@ -76,7 +77,7 @@ same-length-3 c = search needs
 -- src/lib.rt:281:1
 returns-3 : tie.Need-returns-3
 unfolding serveIf serve
-returns-3 c = rw (c .before .before .before .before .enum-told2 .given .1) (record { hub = refl; table = refl; replied = rw (le-leb _ _ (c .before .before .before .before .before .before .before .before .before .pre .1)) at (c .before .before .refuse .ensures) })
+returns-3 c = rw (c .before .before .before .before .enum-told2 .given .1) (record { hub = refl; table = refl; replied = replied-whole _ _ _ _ _ (c .before .before .before .before .before .before .before .before .before .pre .1) (omega arith) (c .before .before .refuse .ensures) })
 
 pub serve-spec : {M : Type 1} → statement M
 serve-spec =

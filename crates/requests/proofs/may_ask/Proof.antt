@@ -4,7 +4,7 @@ use Rattle.requests.proofs.may_ask.Statement.{statement}
 use Rattle.requests.proofs.may_ask.Tie as tie
 use Rattle.requests.proofs.may_ask.Reads as reads
 use Rattle.requests.proofs.may_ask.Lts as lts
-use Rattle.access.proofs.is_logged_in.Reads as is-logged-in-reads
+use Rattle.logins.proofs.is_logged_in.Reads as is-logged-in-reads
 
 -- src/lib.rt:40:8
 is-logged-in-requires : tie.Need-is-logged-in-requires

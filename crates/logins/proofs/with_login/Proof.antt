@@ -3,10 +3,10 @@ use lib.ListN.{length}
 use native.Mathlib.Omega.{arith}
 use mathlib.Core.Path.{sym, _≡_}
 use borrow.Author.Needs.{needs}
-use Rattle.access.proofs.with_login.Statement.{statement}
-use Rattle.access.proofs.with_login.Tie as tie
-use Rattle.access.proofs.with_login.Reads as reads
-use Rattle.access.proofs.with_login.Lts as lts
+use Rattle.logins.proofs.with_login.Statement.{statement}
+use Rattle.logins.proofs.with_login.Tie as tie
+use Rattle.logins.proofs.with_login.Reads as reads
+use Rattle.logins.proofs.with_login.Lts as lts
 
 -- src/lib.rt:80:9
 returns : tie.Need-returns

@@ -3,10 +3,10 @@ use native.Mathlib.Omega.{arith}
 use lib.ListN.{length, List·getD-eq-default}
 use mathlib.Core.Path.{sym, _≡_}
 use borrow.Author.Needs.{needs}
-use Rattle.access.proofs.is_logged_in.Statement.{statement}
-use Rattle.access.proofs.is_logged_in.Tie as tie
-use Rattle.access.proofs.is_logged_in.Reads as reads
-use Rattle.access.proofs.is_logged_in.Lts as lts
+use Rattle.logins.proofs.is_logged_in.Statement.{statement}
+use Rattle.logins.proofs.is_logged_in.Tie as tie
+use Rattle.logins.proofs.is_logged_in.Reads as reads
+use Rattle.logins.proofs.is_logged_in.Lts as lts
 
 -- src/lib.rt:69:9
 returns : tie.Need-returns
