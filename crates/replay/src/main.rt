@@ -1,173 +1,93 @@
 // Replays a script of calls on one hub, one table and four reading records, and answers each (the format: docs/REPLAY.md).
-// It stops where the input cannot be read or the output is not taken. Lines are read by `script`, calls are the hub's, and the
-// text is made by proved functions of `report` and `shows`.
-ghost use Prim.Native.Nat.{_≤_, _<_};
+// It stops where the input cannot be read or the output is not taken. Lines are read by `parser`, calls are the hub's, and the
+// text is made by proved functions of `answering` and `showing`.
+ghost use Prim.Native.Nat.{_+_, _≤_, _<_};
 ghost use mathlib.Core.Path.{_≡_};
 ghost use lib.ListN.{length};
-ghost use Rattle.calls.specs.Answers.{number};
-use calls::CallAnswer;
-use calls::FeedAnswer;
-use calls::FinishAnswer;
-use frame::Outcome;
+ghost use Rattle.script.specs.Script.{longest, tableMost, roomMost};
+use answering::FILLER;
 use libc::STDIN_FILENO;
 use libc::STDOUT_FILENO;
-use line::Fault;
-use line::Mode;
 use line::Reading;
+use parser::LONGEST;
+use parser::ROOM_MOST;
+use parser::TABLE_MOST;
 use rules::Hub;
+use rules::LINES;
 use script::Call;
-use sessions::Slot;
 
-// The table buffer, the reply buffer and its filler.
-const TABLE: usize = 16384;
+// Bytes of an open line that are held: one more than the longest line has, so that a longer one is seen to be.
+const HELD: usize = LONGEST + 1;
 
-const ROOM: usize = 1024;
+// Room for them and for what a read gives.
+const TEXT: usize = HELD + 65536;
 
-const FILLER: u8 = 0xA5;
-
-// One byte more than the longest line, so that a longer one is seen to be; and room for a line's bytes.
-const TEXT: usize = 40001;
-
-const DATA: usize = 20000;
+// No line has more bytes in hexadecimal digits.
+const DATA: usize = LONGEST / 2;
 
 // The output buffer is written when it has more than this: what is left holds any answer, `show` with all slots and nodes too.
 const FULL: usize = 16384;
 
-// What lasts from call to call, beside the table.
-struct State {
-    hub: Hub,
-    readings: [Reading; 4],
-}
-
-// The state after a call, and the place behind its answer.
-struct Played {
-    state: State,
-    at: usize,
-}
-
-// The place in the output, and whether it was taken.
-struct Place {
-    at: usize,
-    going: bool,
-}
-
-// The state, the bytes of the open line, the place in the output, and whether the replay goes on.
+// What lasts from call to call, beside the table; the place in the output, and whether it was taken.
 struct Run {
-    state: State,
-    held: usize,
+    hub: Hub,
+    readings: [Reading; LINES],
     at: usize,
     going: bool,
 }
 
-// The run after a line of a part, and where the next one begins.
+// The run after some input, and how many bytes of an open line are held.
 struct Taken {
     run: Run,
-    next: usize,
+    held: usize,
 }
 
-fn first() -> State {
+fn first() -> Run {
     let hub = host::first();
     let reading = reader::emptied();
-    State {
+    Run {
         hub: hub,
-        readings: [reading; 4],
+        readings: [reading; LINES],
+        at: 0,
+        going: true,
+    }
+}
+
+// The run with another hub and another place in the output.
+fn moved(run: Run, hub: Hub, at: usize) -> Run {
+    let readings = run.readings;
+    Run {
+        hub: hub,
+        readings: readings,
+        at: at,
+        going: true,
     }
 }
 
 // A line above 3 has no record of its own: it is lent an emptied one.
-fn reading_of(readings: [Reading; 4], line: u8) -> Reading {
+fn reading_of(run: Run, line: u8) -> Reading {
     let k = line as usize;
-    if 4 <= k {
+    if LINES <= k {
         return reader::emptied();
     }
+    let readings = run.readings;
     readings[k]
 }
 
-fn with_reading(readings: [Reading; 4], line: u8, reading: Reading) -> [Reading; 4] {
+// The run with the record that was lent.
+fn with_reading(run: Run, line: u8, reading: Reading) -> Run {
     let k = line as usize;
-    if 4 <= k {
-        return readings;
+    if LINES <= k {
+        return run;
     }
-    let mut out = readings;
-    out[k] = reading;
-    out
-}
-
-// ---- answers
-
-fn number_of(refusal: calls::Refusal) -> u8
-    ensures { λ r. ⌜ r ≡ number refusal ⌝ }
-{
-    match refusal {
-        calls::Refusal::WrongTable => 7,
-        calls::Refusal::WrongLine => 8,
-        calls::Refusal::ShortRoom => 9,
-        calls::Refusal::WrongNode => 11,
-        calls::Refusal::NodeInUse => 12,
-        calls::Refusal::NotOpen => 13,
-        calls::Refusal::WrongPassword => 14,
-    }
-}
-
-fn call_line(out: &mut [u8], at: usize, answer: CallAnswer) -> usize {
-    match answer {
-        CallAnswer::Done => report::done_line(out, at),
-        CallAnswer::Refused(refusal) => report::refused_line(out, at, number_of(refusal), false),
-    }
-}
-
-fn refused_line(out: &mut [u8], at: usize, refusal: calls::Refusal, room: &[u8]) -> usize {
-    let spilled = report::spilled(room, 0, FILLER);
-    report::refused_line(out, at, number_of(refusal), spilled)
-}
-
-fn finish_line(out: &mut [u8], at: usize, answer: FinishAnswer, room: &[u8]) -> usize {
-    match answer {
-        FinishAnswer::Refused(refusal) => refused_line(out, at, refusal, room),
-        FinishAnswer::Finished { line, len } => {
-            let n = least(len, room.len());
-            let spilled = report::spilled(room, n, FILLER);
-            replied::finished_line(out, at, line, &room[0..n], spilled)
-        }
-    }
-}
-
-fn feed_line(out: &mut [u8], at: usize, answer: FeedAnswer, room: &[u8]) -> usize {
-    match answer {
-        FeedAnswer::Refused(refusal) => refused_line(out, at, refusal, room),
-        FeedAnswer::Told { used, outcome, len } => told_line(out, at, used, outcome, len, room),
-    }
-}
-
-fn told_line(
-    out: &mut [u8],
-    at: usize,
-    used: usize,
-    outcome: Outcome,
-    len: usize,
-    room: &[u8],
-) -> usize {
-    let n = least(len, room.len());
-    let spilled = report::spilled(room, n, FILLER);
-    match outcome {
-        Outcome::Nothing => replied::none_line(out, at, used, &room[0..n], spilled),
-        Outcome::Frame { command, len } => outcomes::frame_line(
-            out,
-            at,
-            used,
-            command,
-            len,
-            &room[0..n],
-            spilled,
-        ),
-        Outcome::Refused(refusal) => outcomes::packet_line(
-            out,
-            at,
-            used,
-            listed::number_of(refusal),
-            &room[0..n],
-            spilled,
-        ),
+    let hub = run.hub;
+    let mut readings = run.readings;
+    readings[k] = reading;
+    Run {
+        hub: hub,
+        readings: readings,
+        at: run.at,
+        going: true,
     }
 }
 
@@ -180,266 +100,148 @@ fn least(a: usize, b: usize) -> usize
     b
 }
 
-// ---- show
-
-fn show(state: State, table: &[u8], out: &mut [u8], at: usize) -> usize
-    requires { ⌜ length (now table) ≡ 16384 ⌝ }
-{
-    let hub = state.hub;
-    let logins = hub.logins;
-    let slots = hub.slots;
-    let readings = state.readings;
-    let a = shows::login_line(out, at, logins);
-    let b = show_slots(slots, out, a);
-    let d = show_nodes(table, out, b);
-    let e = show_readings(readings, out, d);
-    shows::end_line(out, e)
-}
-
-fn show_slots(slots: [Slot; 8], out: &mut [u8], at: usize) -> usize {
-    let mut end = at;
-    let mut k = 0;
-    while k < 8 {
-        end = show_slot(slots[k], k as u8, out, end);
-        k += 1;
-    }
-    end
-}
-
-fn show_slot(slot: Slot, k: u8, out: &mut [u8], at: usize) -> usize {
-    if !slot.used {
-        return at;
-    }
-    let number = slot.number;
-    let line = slot.line;
-    let nodes = slot.nodes;
-    slotline::slot_line(out, at, k, number, line, nodes)
-}
-
-fn show_nodes(table: &[u8], out: &mut [u8], at: usize) -> usize
-    requires { ⌜ length (now table) ≡ 16384 ⌝ }
-{
-    let mut end = at;
-    let mut k = 0;
-    while k < 200 {
-        end = show_node(&table[k * 72..k * 72 + 72], k as u8, out, end);
-        k += 1;
-    }
-    end
-}
-
-// A record that is all zero is not shown.
-fn show_node(fields: &[u8], k: u8, out: &mut [u8], at: usize) -> usize {
-    if report::spilled(fields, 0, 0) {
-        return shows::node_line(out, at, k, fields);
-    }
-    at
-}
-
-fn show_readings(readings: [Reading; 4], out: &mut [u8], at: usize) -> usize {
-    let mut end = at;
-    let mut k = 0;
-    while k < 4 {
-        end = show_reading(readings[k], k as u8, out, end);
-        k += 1;
-    }
-    end
-}
-
-fn show_reading(reading: Reading, k: u8, out: &mut [u8], at: usize) -> usize {
-    let bytes = reading.bytes;
-    let mode = reading.mode;
-    let n = least(reading.count, 255);
-    shows::reading_line(out, at, k, mode_of(mode), &bytes[0..n])
-}
-
-fn mode_of(mode: Mode) -> answers::Mode {
-    match mode {
-        Mode::Plain => answers::Mode::Plain,
-        Mode::Escaped => answers::Mode::Escaped,
-        Mode::Skipping(fault) => skip_of(fault),
-    }
-}
-
-fn skip_of(fault: Fault) -> answers::Mode {
-    match fault {
-        Fault::WrongEscape => answers::Mode::Skip1,
-        Fault::TooLong => answers::Mode::Skip2,
-    }
-}
-
 // ---- calls
 
-fn start(state: State, table: &mut [u8], word: &[u8], out: &mut [u8], at: usize) -> Played {
-    let before = state.hub;
-    let readings = state.readings;
+fn start(run: Run, table: &mut [u8], word: &[u8], out: &mut [u8]) -> Run {
     let mut bytes = [0u8; DATA];
     let n = least(decoding::decode(word, &mut bytes), DATA);
-    let started = host::start(before, table, &bytes[0..n]);
+    let hub = run.hub;
+    let started = host::start(hub, table, &bytes[0..n]);
     let next = started.hub;
     let answer = started.answer;
-    let end = call_line(out, at, answer);
-    Played {
-        state: State {
-            hub: next,
-            readings: readings,
-        },
-        at: end,
-    }
+    let end = answering::call_line(out, run.at, answer);
+    moved(run, next, end)
 }
 
-fn enrol(state: State, table: &mut [u8], node: u8, kind: u16, out: &mut [u8], at: usize) -> Played {
+fn enrol(run: Run, table: &mut [u8], node: u8, kind: u16, out: &mut [u8]) -> Run {
     let answer = host::enrol(table, node, kind);
-    let end = call_line(out, at, answer);
-    Played {
-        state: state,
-        at: end,
-    }
+    let end = answering::call_line(out, run.at, answer);
+    let hub = run.hub;
+    moved(run, hub, end)
 }
 
-fn close(state: State, line: u8, out: &mut [u8], at: usize) -> Played {
-    let before = state.hub;
-    let readings = state.readings;
-    let closed = lending::close(before, reading_of(readings, line), line);
+fn close(run: Run, line: u8, out: &mut [u8]) -> Run {
+    let hub = run.hub;
+    let closed = lending::close(hub, reading_of(run, line), line);
     let next = closed.hub;
     let reading = closed.reading;
     let answer = closed.answer;
-    let after = with_reading(readings, line, reading);
-    let end = call_line(out, at, answer);
-    Played {
-        state: State {
-            hub: next,
-            readings: after,
-        },
-        at: end,
-    }
+    let end = answering::call_line(out, run.at, answer);
+    moved(with_reading(run, line, reading), next, end)
 }
 
-fn finish(state: State, session: u16, lent: usize, out: &mut [u8], at: usize) -> Played
-    requires { ⌜ lent ≤ 1024 ⌝ }
+fn finish(run: Run, session: u16, lent: usize, out: &mut [u8]) -> Run
+    requires { ⌜ lent ≤ roomMost ⌝ }
 {
-    let before = state.hub;
-    let readings = state.readings;
-    let mut space = [FILLER; ROOM];
+    let hub = run.hub;
+    let mut space = [FILLER; ROOM_MOST];
     let room: &mut [u8] = &mut space;
-    let finished = host::finish(before, session, &mut room[0..lent]);
+    let finished = host::finish(hub, session, &mut room[0..lent]);
     let next = finished.hub;
     let answer = finished.answer;
-    let end = finish_line(out, at, answer, room);
-    Played {
-        state: State {
-            hub: next,
-            readings: readings,
-        },
-        at: end,
-    }
+    let end = answering::finish_line(out, run.at, answer, room);
+    moved(run, next, end)
 }
 
-fn feed(
-    state: State,
-    table: &mut [u8],
-    line: u8,
-    word: &[u8],
-    lent: usize,
-    out: &mut [u8],
-    at: usize,
-) -> Played
-    requires { ⌜ lent ≤ 1024 ⌝ }
+fn feed(run: Run, table: &mut [u8], line: u8, word: &[u8], lent: usize, out: &mut [u8]) -> Run
+    requires { ⌜ lent ≤ roomMost ⌝ }
 {
-    let before = state.hub;
-    let readings = state.readings;
-    let lent_reading = reading_of(readings, line);
     let mut bytes = [0u8; DATA];
     let n = least(decoding::decode(word, &mut bytes), DATA);
-    let mut space = [FILLER; ROOM];
+    feed_bytes(run, table, line, &bytes[0..n], lent, out)
+}
+
+fn feed_bytes(run: Run, table: &mut [u8], line: u8, wire: &[u8], lent: usize, out: &mut [u8]) -> Run
+    requires { ⌜ lent ≤ roomMost ⌝ }
+{
+    let hub = run.hub;
+    let mut space = [FILLER; ROOM_MOST];
     let room: &mut [u8] = &mut space;
     let fed = lending::feed(
-        before,
+        hub,
         table,
-        lent_reading,
+        reading_of(run, line),
         line,
-        &bytes[0..n],
+        wire,
         &mut room[0..lent],
     );
     let next = fed.hub;
     let reading = fed.reading;
     let answer = fed.answer;
-    let after = with_reading(readings, line, reading);
-    let end = feed_line(out, at, answer, room);
-    Played {
-        state: State {
-            hub: next,
-            readings: after,
-        },
-        at: end,
-    }
+    let end = answering::feed_line(out, run.at, answer, room);
+    moved(with_reading(run, line, reading), next, end)
+}
+
+fn show(run: Run, table: &[u8], out: &mut [u8]) -> Run {
+    let hub = run.hub;
+    let readings = run.readings;
+    let end = showing::show(out, run.at, hub, table, readings);
+    moved(run, hub, end)
+}
+
+fn bad(run: Run, out: &mut [u8]) -> Run {
+    let hub = run.hub;
+    let end = report::bad_line(out, run.at);
+    moved(run, hub, end)
 }
 
 // ---- lines
 
 // One line of the script, without its LF.
-fn play(state: State, text: &[u8], table: &mut [u8], out: &mut [u8], at: usize) -> Played
-    requires { ⌜ length (now table) ≡ 16384 ⌝ }
+fn play(run: Run, line: &[u8], table: &mut [u8], out: &mut [u8]) -> Run
+    requires { ⌜ length (now table) ≡ tableMost ⌝ }
 {
-    match parser::parse(text) {
+    match parser::parse(line) {
         Call::Start {
-            at: place,
+            at,
             len,
             table: lent,
-        } => start(
-            state,
-            &mut table[0..lent],
-            &text[place..place + len],
-            out,
-            at,
-        ),
+        } => start(run, &mut table[0..lent], &line[at..at + len], out),
         Call::Enrol {
             node,
             kind,
             table: lent,
-        } => enrol(state, &mut table[0..lent], node, kind, out, at),
+        } => enrol(run, &mut table[0..lent], node, kind, out),
         Call::Feed {
-            line,
+            line: k,
             room,
-            at: place,
+            at,
             len,
             table: lent,
-        } => feed(
-            state,
-            &mut table[0..lent],
-            line,
-            &text[place..place + len],
-            room,
-            out,
-            at,
-        ),
-        Call::Close { line } => close(state, line, out, at),
-        Call::Finish { session, room } => finish(state, session, room, out, at),
-        Call::Show => {
-            let end = show(state, table, out, at);
-            Played {
-                state: state,
-                at: end,
-            }
-        }
-        Call::Bad => {
-            let end = report::bad_line(out, at);
-            Played {
-                state: state,
-                at: end,
-            }
-        }
+        } => feed(run, &mut table[0..lent], k, &line[at..at + len], room, out),
+        Call::Close { line: k } => close(run, k, out),
+        Call::Finish { session, room } => finish(run, session, room, out),
+        Call::Show => show(run, table, out),
+        Call::Bad => bad(run, out),
     }
 }
 
-// Where the line that goes on at `from` ends: at its LF, or at the end of the part.
-fn line_end(part: &[u8], from: usize) -> usize
-    requires { ⌜ from ≤ length (now part) ⌝ }
-    ensures { λ r. ⌜ (from ≤ r) × (r ≤ length (now (part .entry))) ⌝ }
+// The output is written where more than `most` of it is filled.
+fn flush(run: Run, out: &[u8], most: usize) -> Run {
+    let at = run.at;
+    if at <= most {
+        return run;
+    }
+    let n = least(at, out.len());
+    let going = io::write_all(STDOUT_FILENO, &out[0..n]);
+    let hub = run.hub;
+    let readings = run.readings;
+    Run {
+        hub: hub,
+        readings: readings,
+        at: 0,
+        going: going,
+    }
+}
+
+// Where the line that goes on at `from` ends: at its LF, or at the end of the bytes.
+fn line_end(bytes: &[u8], from: usize) -> usize
+    requires { ⌜ from ≤ length (now bytes) ⌝ }
+    ensures { λ r. ⌜ (from ≤ r) × (r ≤ length (now (bytes .entry))) ⌝ }
 {
     let mut i = from;
-    while i < part.len() {
-        if part[i] == b'\n' {
+    while i < bytes.len() {
+        if bytes[i] == b'\n' {
             return i;
         }
         i += 1;
@@ -447,173 +249,121 @@ fn line_end(part: &[u8], from: usize) -> usize
     i
 }
 
-// The bytes of an open line are kept; of a line that is too long, as many as show it.
-fn keep(text: &mut [u8], held: usize, more: &[u8]) -> usize
-    requires { ⌜ (length (now text) ≡ 40001) × (held ≤ 40001) ⌝ }
-    ensures { λ r. ⌜ r ≤ 40001 ⌝ }
+// The lines of some bytes, of which the first `held` have no LF. The answer holds the bytes behind the last LF.
+fn take(run: Run, bytes: &[u8], held: usize, table: &mut [u8], out: &mut [u8]) -> Taken
+    requires { ⌜ (length (now table) ≡ tableMost) × (held ≤ length (now bytes)) ⌝ }
+    ensures { λ r. ⌜ r .held ≤ length (now (bytes .entry)) ⌝ }
 {
-    let n = least(more.len(), TEXT - held);
-    store::copy(text, held, &more[0..n]);
-    held + n
-}
-
-// The output is written if little room is left in it.
-fn flush(out: &[u8], at: usize, most: usize) -> Place {
-    if at <= most {
-        return Place {
-            at: at,
-            going: true,
-        };
+    let mut all = run;
+    let mut from = 0;
+    let mut end = line_end(bytes, held);
+    while end < bytes.len() {
+        let next = end + 1;
+        let after = flush(play(all, &bytes[from..end], table, out), out, FULL);
+        all = after;
+        if !all.going {
+            return Taken { run: all, held: 0 };
+        }
+        from = next;
+        end = line_end(bytes, from);
     }
-    let n = least(at, out.len());
-    let going = io::write_all(STDOUT_FILENO, &out[0..n]);
-    Place {
-        at: 0,
-        going: going,
+    Taken {
+        run: all,
+        held: end - from,
     }
 }
 
-// A whole line is played, and the next one begins.
-fn end_line(run: Run, text: &[u8], table: &mut [u8], out: &mut [u8]) -> Run
-    requires { ⌜ (length (now table) ≡ 16384) × (length (now text) ≡ 40001) ⌝ }
-    ensures { λ r. ⌜ r .held ≤ 40001 ⌝ }
+// The open line moves to the text's front; of one that is too long, as many bytes as show it.
+fn keep(text: &mut [u8], from: usize, held: usize) -> usize
+    requires { ⌜ from + held ≤ length (now text) ⌝ }
+    ensures { λ r. ⌜ r ≤ longest + 1 ⌝ }
 {
-    let state = run.state;
-    let n = least(run.held, TEXT);
-    let played = play(state, &text[0..n], table, out, run.at);
-    let next = played.state;
-    let place = flush(out, played.at, FULL);
-    Run {
-        state: next,
-        held: 0,
-        at: place.at,
-        going: place.going,
+    let n = least(held, HELD);
+    let mut i = 0;
+    while i < n {
+        text[i] = text[from + i];
+        i += 1;
     }
+    n
 }
 
-// The part's line from `from` on: it is played if its LF is there.
-fn take_line(
+// The text has bytes up to `end`, of which the first `held` are those of the open line.
+fn more(
     run: Run,
-    part: &[u8],
-    from: usize,
     text: &mut [u8],
+    held: usize,
+    end: usize,
     table: &mut [u8],
     out: &mut [u8],
 ) -> Taken
-    requires { ⌜ (length (now table) ≡ 16384) × (length (now text) ≡ 40001) × (run .held ≤ 40001) × (from < length (now part)) ⌝ }
-    ensures { λ r. ⌜ (r .run .held ≤ 40001) × (from < r .next) × (r .next ≤ length (now (part .entry))) ⌝ }
+    requires { ⌜ (length (now table) ≡ tableMost) × (held ≤ end) × (end ≤ length (now text)) ⌝ }
+    ensures { λ r. ⌜ r .held ≤ longest + 1 ⌝ }
 {
-    let end = line_end(part, from);
-    let longer = hold(run, text, &part[from..end]);
-    if part.len() <= end {
-        return Taken {
-            run: longer,
-            next: end,
-        };
-    }
-    let behind = end + 1;
-    let played = end_line(longer, text, table, out);
+    let taken = take(run, &text[0..end], held, table, out);
+    let after = taken.run;
+    let rest = taken.held;
+    let kept = keep(text, end - rest, rest);
     Taken {
-        run: played,
-        next: behind,
+        run: after,
+        held: kept,
     }
 }
 
-// The run with more bytes of its open line.
-fn hold(run: Run, text: &mut [u8], more: &[u8]) -> Run
-    requires { ⌜ (length (now text) ≡ 40001) × (run .held ≤ 40001) ⌝ }
-    ensures { λ r. ⌜ r .held ≤ 40001 ⌝ }
+// At the end of the input, what follows the last LF is a line if it is not empty, and the rest of the output is due.
+fn last(run: Run, line: &[u8], table: &mut [u8], out: &mut [u8]) -> Run
+    requires { ⌜ length (now table) ≡ tableMost ⌝ }
 {
-    let state = run.state;
-    let at = run.at;
-    let going = run.going;
-    let held = keep(text, run.held, more);
-    Run {
-        state: state,
-        held: held,
-        at: at,
-        going: going,
+    if line.len() == 0 {
+        return flush(run, out, 0);
     }
+    flush(play(run, line, table, out), out, 0)
 }
 
-// The bytes that a read gave, line by line.
-fn take(run: Run, part: &[u8], text: &mut [u8], table: &mut [u8], out: &mut [u8]) -> Run
-    requires { ⌜ (length (now table) ≡ 16384) × (length (now text) ≡ 40001) × (run .held ≤ 40001) ⌝ }
-    ensures { λ r. ⌜ r .held ≤ 40001 ⌝ }
+// Reads once.
+fn turn(run: Run, text: &mut [u8], held: usize, table: &mut [u8], out: &mut [u8]) -> Taken
+    requires { ⌜ (length (now table) ≡ tableMost) × (longest < length (now text)) × (held ≤ longest + 1) ⌝ }
+    ensures { λ r. ⌜ r .held ≤ longest + 1 ⌝ }
 {
-    let mut all = run;
-    let mut i = 0;
-    while i < part.len() {
-        let taken = take_line(all, part, i, text, table, out);
-        let after = taken.run;
-        i = taken.next;
-        all = after;
-        if !all.going {
-            return all;
-        }
-    }
-    all
-}
-
-fn stopped(run: Run) -> Run
-    ensures { λ r. ⌜ r .held ≡ run .held ⌝ }
-{
-    let state = run.state;
-    let held = run.held;
-    let at = run.at;
-    Run {
-        state: state,
-        held: held,
-        at: at,
-        going: false,
-    }
-}
-
-// At the end of the input, what follows the last LF is a line if it is not empty.
-fn last(run: Run, text: &[u8], table: &mut [u8], out: &mut [u8]) -> Run
-    requires { ⌜ (length (now table) ≡ 16384) × (length (now text) ≡ 40001) × (run .held ≤ 40001) ⌝ }
-    ensures { λ r. ⌜ r .held ≤ 40001 ⌝ }
-{
-    if run.held == 0 {
-        return run;
-    }
-    end_line(run, text, table, out)
-}
-
-// Reads once. At the end of the input the last line is due, and the rest of the output.
-fn turn(run: Run, text: &mut [u8], table: &mut [u8], out: &mut [u8]) -> Run
-    requires { ⌜ (length (now table) ≡ 16384) × (length (now text) ≡ 40001) × (run .held ≤ 40001) ⌝ }
-    ensures { λ r. ⌜ r .held ≤ 40001 ⌝ }
-{
-    let mut buffer = io::large_buffer();
-    let got = libc::read(STDIN_FILENO, &mut buffer);
+    let got = libc::read(STDIN_FILENO, &mut text[held..]);
     if got < 0 {
         return stopped(run);
     }
     if got == 0 {
-        let end = last(run, text, table, out);
-        flush(out, end.at, 0);
-        return stopped(end);
+        return stopped(last(run, &text[0..held], table, out));
     }
-    let n = io::count(got, &buffer);
-    take(run, &buffer[..n], text, table, out)
+    let n = io::count(got, &text[held..]);
+    more(run, text, held, held + n, table, out)
+}
+
+// There is no more input.
+fn stopped(run: Run) -> Taken
+    ensures { λ r. ⌜ r .held ≡ 0 ⌝ }
+{
+    let hub = run.hub;
+    let readings = run.readings;
+    Taken {
+        run: Run {
+            hub: hub,
+            readings: readings,
+            at: 0,
+            going: false,
+        },
+        held: 0,
+    }
 }
 
 fn main() {
-    let mut table = [0u8; TABLE];
+    let mut table = [0u8; TABLE_MOST];
     let mut text = [0u8; TEXT];
     let mut out = io::large_buffer();
-    let state = first();
-    let mut run = Run {
-        state: state,
-        held: 0,
-        at: 0,
-        going: true,
-    };
+    let mut run = first();
+    let mut held = 0;
     let mut turns: u64 = 18446744073709551615;
     while 0 < turns {
-        let next = turn(run, &mut text, &mut table, &mut out);
-        run = next;
+        let next = turn(run, &mut text, held, &mut table, &mut out);
+        let after = next.run;
+        run = after;
+        held = next.held;
         if !run.going {
             return;
         }

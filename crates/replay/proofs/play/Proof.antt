@@ -2,214 +2,154 @@ use native.Mathlib.Omega.{arith}
 use borrow.Author.Needs.{needs}
 use Rattle.replay.proofs.play.Statement.{statement}
 use Rattle.replay.proofs.play.Tie as tie
-use Rattle.replay.proofs.play.Reads as reads
-use Rattle.replay.proofs.play.Lts as lts
-use Rattle.replay.proofs.close.Reads as close-reads
-use Rattle.replay.proofs.enrol.Reads as enrol-reads
-use Rattle.replay.proofs.feed.Reads as feed-reads
-use Rattle.replay.proofs.finish.Reads as finish-reads
-use Rattle.replay.proofs.show.Reads as show-reads
-use Rattle.replay.proofs.start.Reads as start-reads
-use Rattle.report.proofs.bad_line.Reads as bad-line-reads
-use Rattle.parser.proofs.parse.Reads as parse-reads
 
--- src/main.rt:367:11
 parse-requires : tie.Need-parse-requires
 parse-requires c κs = search needs
 
--- src/main.rt:369:17
-enum-known-place : tie.Need-enum-known-place
-enum-known-place c = search needs
+enum-known-at : tie.Need-enum-known-at
+enum-known-at c = search needs
 
--- src/main.rt:372:27
 sub-start : tie.Need-sub-start
 sub-start c = search needs
 
--- src/main.rt:372:27
 part-start-start : tie.Need-part-start-start
 part-start-start c = search needs
 
--- src/main.rt:372:27
 part-start-end : tie.Need-part-start-end
-part-start-end c = let w = rw (c .before .place .given .1) at (c .before .before .before .parse .ensures .within) in omega (arith, w .2, c .before .before .before .before .before .before .before .pre)
+part-start-end c = let w = rw (c .before .at .given .1) at (c .before .before .before .parse .ensures .within) in omega (arith, w .2, c .before .before .before .before .before .before .before .pre)
 
--- src/main.rt:372:61
 add-start : tie.Need-add-start
-add-start c = let w = rw (c .before .before .place .given .1) at (c .before .before .before .before .parse .ensures .within) in search needs
+add-start c = let w = rw (c .before .before .at .given .1) at (c .before .before .before .before .parse .ensures .within) in search needs
 
--- src/main.rt:372:48
 sub-start-2 : tie.Need-sub-start-2
 sub-start-2 c = search needs
 
--- src/main.rt:372:48
 part-start-start-2 : tie.Need-part-start-start-2
 part-start-start-2 c = search needs
 
--- src/main.rt:372:48
 part-start-end-2 : tie.Need-part-start-end-2
-part-start-end-2 c = let w = rw (c .before .before .place .given .1) at (c .before .before .before .before .parse .ensures .within) in omega (arith, w .0)
+part-start-end-2 c = let w = rw (c .before .before .at .given .1) at (c .before .before .before .before .parse .ensures .within) in omega (arith, w .0)
 
--- src/main.rt:372:14
 start-requires : tie.Need-start-requires
 start-requires c κs = search needs
 
--- src/main.rt:374:13
 enum-known-node : tie.Need-enum-known-node
 enum-known-node c = search needs
 
--- src/main.rt:377:27
 sub-enrol : tie.Need-sub-enrol
 sub-enrol c = search needs
 
--- src/main.rt:377:27
 part-enrol-start : tie.Need-part-enrol-start
 part-enrol-start c = search needs
 
--- src/main.rt:377:27
 part-enrol-end : tie.Need-part-enrol-end
 part-enrol-end c = let w = rw (c .before .node .given .1) at (c .before .before .before .parse .ensures .within) in omega (arith, w, c .before .before .before .before .before .before .before .pre)
 
--- src/main.rt:377:14
 enrol-requires : tie.Need-enrol-requires
 enrol-requires c κs = search needs
 
--- src/main.rt:379:13
-enum-known-line : tie.Need-enum-known-line
-enum-known-line c = search needs
+enum-known-k : tie.Need-enum-known-k
+enum-known-k c = search needs
 
--- src/main.rt:384:26
 sub-feed : tie.Need-sub-feed
 sub-feed c = search needs
 
--- src/main.rt:384:26
 part-feed-start : tie.Need-part-feed-start
 part-feed-start c = search needs
 
--- src/main.rt:384:26
 part-feed-end : tie.Need-part-feed-end
-part-feed-end c = let w = rw (c .before .line .given .1) at (c .before .before .before .parse .ensures .within) in omega (arith, w .2, c .before .before .before .before .before .before .before .pre)
+part-feed-end c = let w = rw (c .before .k .given .1) at (c .before .before .before .parse .ensures .within) in omega (arith, w .2, c .before .before .before .before .before .before .before .pre)
 
--- src/main.rt:384:66
 add-feed : tie.Need-add-feed
-add-feed c = let w = rw (c .before .before .line .given .1) at (c .before .before .before .before .parse .ensures .within) in search needs
+add-feed c = let w = rw (c .before .before .k .given .1) at (c .before .before .before .before .parse .ensures .within) in search needs
 
--- src/main.rt:384:53
 sub-feed-2 : tie.Need-sub-feed-2
 sub-feed-2 c = search needs
 
--- src/main.rt:384:53
 part-feed-start-2 : tie.Need-part-feed-start-2
 part-feed-start-2 c = search needs
 
--- src/main.rt:384:53
 part-feed-end-2 : tie.Need-part-feed-end-2
-part-feed-end-2 c = let w = rw (c .before .before .line .given .1) at (c .before .before .before .before .parse .ensures .within) in omega (arith, w .0)
+part-feed-end-2 c = let w = rw (c .before .before .k .given .1) at (c .before .before .before .before .parse .ensures .within) in omega (arith, w .0)
 
--- src/main.rt:384:14
 feed-requires : tie.Need-feed-requires
-feed-requires c κs = let w = rw (c .before .before .before .before .line .given .1) at (c .before .before .before .before .before .before .parse .ensures .within) in omega (arith, w .3)
+feed-requires c κs = let w = rw (c .before .before .before .before .k .given .1) at (c .before .before .before .before .before .before .parse .ensures .within) in omega (arith, w .3)
 
--- src/main.rt:385:23
-enum-known-line-2 : tie.Need-enum-known-line-2
-enum-known-line-2 c = search needs
+enum-known-k-2 : tie.Need-enum-known-k-2
+enum-known-k-2 c = search needs
 
--- src/main.rt:385:33
 close-requires : tie.Need-close-requires
 close-requires c κs = search needs
 
--- src/main.rt:386:24
 enum-known-session : tie.Need-enum-known-session
 enum-known-session c = search needs
 
--- src/main.rt:386:43
 finish-requires : tie.Need-finish-requires
 finish-requires c κs = let w = rw (c .before .before .session .given .1) at (c .before .before .before .before .parse .ensures .within) in omega (arith, w)
 
--- src/main.rt:388:35
 enum-told : tie.Need-enum-told
 enum-told c = search needs
 
--- src/main.rt:388:17
 show-requires : tie.Need-show-requires
 show-requires c κs = search needs
 
--- src/main.rt:395:40
 enum-told-2 : tie.Need-enum-told-2
 enum-told-2 c = search needs
 
--- src/main.rt:395:17
-bad-line-requires : tie.Need-bad-line-requires
-bad-line-requires c κs = search needs
+bad-requires : tie.Need-bad-requires
+bad-requires c κs = search needs
 
--- src/main.rt:364:1
 same-length : tie.Need-same-length
 same-length c = search needs
 
--- src/main.rt:364:1
 same-length-2 : tie.Need-same-length-2
 same-length-2 c = search needs
 
--- src/main.rt:364:1
 returns : tie.Need-returns
 returns c = search needs
 
--- src/main.rt:364:1
 same-length-3 : tie.Need-same-length-3
 same-length-3 c = search needs
 
--- src/main.rt:364:1
 same-length-4 : tie.Need-same-length-4
 same-length-4 c = search needs
 
--- src/main.rt:364:1
 returns-2 : tie.Need-returns-2
 returns-2 c = search needs
 
--- src/main.rt:364:1
 same-length-5 : tie.Need-same-length-5
 same-length-5 c = search needs
 
--- src/main.rt:364:1
 same-length-6 : tie.Need-same-length-6
 same-length-6 c = search needs
 
--- src/main.rt:364:1
 returns-3 : tie.Need-returns-3
 returns-3 c = search needs
 
--- src/main.rt:364:1
 same-length-7 : tie.Need-same-length-7
 same-length-7 c = search needs
 
--- src/main.rt:364:1
 returns-4 : tie.Need-returns-4
 returns-4 c = search needs
 
--- src/main.rt:364:1
 same-length-8 : tie.Need-same-length-8
 same-length-8 c = search needs
 
--- src/main.rt:364:1
 returns-5 : tie.Need-returns-5
 returns-5 c = search needs
 
--- src/main.rt:364:1
 same-length-9 : tie.Need-same-length-9
 same-length-9 c = search needs
 
--- src/main.rt:364:1
 same-length-10 : tie.Need-same-length-10
 same-length-10 c = search needs
 
--- src/main.rt:364:1
 returns-6 : tie.Need-returns-6
 returns-6 c = search needs
 
--- src/main.rt:364:1
 same-length-11 : tie.Need-same-length-11
 same-length-11 c = search needs
 
--- src/main.rt:364:1
 returns-7 : tie.Need-returns-7
 returns-7 c = search needs
 
@@ -218,7 +158,7 @@ play-spec =
     tie.close
     (tie.spec
     parse-requires
-    enum-known-place
+    enum-known-at
     sub-start
     part-start-start
     part-start-end
@@ -232,7 +172,7 @@ play-spec =
     part-enrol-start
     part-enrol-end
     enrol-requires
-    enum-known-line
+    enum-known-k
     sub-feed
     part-feed-start
     part-feed-end
@@ -241,14 +181,14 @@ play-spec =
     part-feed-start-2
     part-feed-end-2
     feed-requires
-    enum-known-line-2
+    enum-known-k-2
     close-requires
     enum-known-session
     finish-requires
     enum-told
     show-requires
     enum-told-2
-    bad-line-requires
+    bad-requires
     same-length
     same-length-2
     returns

@@ -1,67 +1,69 @@
-use borrow.Author.Needs.{needs}
-use lib.ListN.{length}
-use native.Mathlib.Omega.{arith}
+use Prim.Native.Nat.{_-_, _≤_}
 use mathlib.Core.Path.{_≡_}
-use Prim.Native.Nat.{_≤_, _-_}
+use lib.ListN.{length}
+use borrow.Author.Needs.{needs}
 use Rattle.replay.proofs.take.Statement.{statement}
 use Rattle.replay.proofs.take.Tie as tie
-use Rattle.replay.proofs.take.Reads as reads
-use Rattle.replay.proofs.take.Lts as lts
-use Rattle.replay.proofs.take_line.Reads as take-line-reads
 
 abbrev Inv-loop : tie.InvT-loop
-Inv-loop part text₀ table₀ out₀ all₀ i₀ text table out all i = (length text ≡ length text₀) × (length table ≡ length table₀) × (length out ≡ length out₀) × (all .held ≤ 40001) × (i ≤ length part)
+Inv-loop bytes held table₀ out₀ all₀ from₀ end₀ table out all from end = (length table ≡ length table₀) × (length out ≡ length out₀) × (from ≤ end) × (end ≤ length bytes)
 
 abbrev μ-loop : tie.MeasureT-loop
-μ-loop part text₀ table₀ out₀ all₀ i₀ text table out all i = length part - i
+μ-loop bytes held table₀ out₀ all₀ from₀ end₀ table out all from end = length bytes - end
 
--- src/main.rt:507:5
+line-end-requires : tie.Need-line-end-requires Inv-loop μ-loop
+line-end-requires c κs = search needs
+
 loop-holds : tie.Need-loop-holds Inv-loop μ-loop
-loop-holds c = (search needs, search needs, search needs, c .before .before .before .before .pre .2, search needs)
+loop-holds c = search needs
 
--- src/main.rt:508:13
-take-line-requires : tie.Need-take-line-requires Inv-loop μ-loop
-take-line-requires c κs = (omega (arith, c .before .before .before .before .loop .inv .1, c .before .before .before .before .before .before .before .before .before .pre .0), omega (arith, c .before .before .before .before .loop .inv .0, c .before .before .before .before .before .before .before .before .before .pre .1), c .before .before .before .before .loop .inv .3, c .before .before .before .loop-test .taken)
+add-next : tie.Need-add-next Inv-loop μ-loop
+add-next c = search needs
 
--- src/main.rt:513:13
+sub-play : tie.Need-sub-play Inv-loop μ-loop
+sub-play c = search needs
+
+part-play-start : tie.Need-part-play-start Inv-loop μ-loop
+part-play-start c = search needs
+
+part-play-end : tie.Need-part-play-end Inv-loop μ-loop
+part-play-end c = search needs
+
+play-requires : tie.Need-play-requires Inv-loop μ-loop
+play-requires c κs = search needs
+
+flush-requires : tie.Need-flush-requires Inv-loop μ-loop
+flush-requires c κs = search needs
+
 same-length : tie.Need-same-length Inv-loop μ-loop
 same-length c = search needs
 
--- src/main.rt:513:13
 same-length-2 : tie.Need-same-length-2 Inv-loop μ-loop
 same-length-2 c = search needs
 
--- src/main.rt:513:13
+returns : tie.Need-returns Inv-loop μ-loop
+returns c = search needs
+
+line-end-requires-2 : tie.Need-line-end-requires-2 Inv-loop μ-loop
+line-end-requires-2 c κs = search needs
+
+loop-less : tie.Need-loop-less Inv-loop μ-loop
+loop-less c = search needs
+
+loop-again : tie.Need-loop-again Inv-loop μ-loop
+loop-again c = search needs
+
+sub-t23 : tie.Need-sub-t23 Inv-loop μ-loop
+sub-t23 c = search needs
+
 same-length-3 : tie.Need-same-length-3 Inv-loop μ-loop
 same-length-3 c = search needs
 
--- src/main.rt:513:13
-returns : tie.Need-returns Inv-loop μ-loop
-returns c = c .before .before .before .before .before .before .before .before .before .take-line .ensures .0
-
--- src/main.rt:507:5
-loop-less : tie.Need-loop-less Inv-loop μ-loop
-loop-less c = omega (arith, c .before .before .before .before .before .before .before .before .before .take-line .ensures .1, c .before .before .before .before .before .before .before .before .before .take-line .ensures .2)
-
--- src/main.rt:507:5
-loop-again : tie.Need-loop-again Inv-loop μ-loop
-loop-again c = (search needs, search needs, search needs, c .before .before .before .before .before .before .before .before .before .take-line .ensures .0, c .before .before .before .before .before .before .before .before .before .take-line .ensures .2)
-
--- src/main.rt:501:1
 same-length-4 : tie.Need-same-length-4 Inv-loop μ-loop
 same-length-4 c = search needs
 
--- src/main.rt:501:1
-same-length-5 : tie.Need-same-length-5 Inv-loop μ-loop
-same-length-5 c = search needs
-
--- src/main.rt:501:1
-same-length-6 : tie.Need-same-length-6 Inv-loop μ-loop
-same-length-6 c = search needs
-
--- src/main.rt:501:1
 returns-2 : tie.Need-returns-2 Inv-loop μ-loop
-returns-2 c = c .before .loop .inv .3
+returns-2 c = search needs
 
 pub take-spec : {M : Type 1} → statement M
 take-spec =
@@ -69,15 +71,21 @@ take-spec =
     (tie.spec
     Inv-loop
     μ-loop
+    line-end-requires
     loop-holds
-    take-line-requires
+    add-next
+    sub-play
+    part-play-start
+    part-play-end
+    play-requires
+    flush-requires
     same-length
     same-length-2
-    same-length-3
     returns
+    line-end-requires-2
     loop-less
     loop-again
+    sub-t23
+    same-length-3
     same-length-4
-    same-length-5
-    same-length-6
     returns-2)
