@@ -1,4 +1,4 @@
--- Demand 1, over the definitions: a refused call changes nothing; a refused packet brings one error reply only.
+-- Demand 1, over the definitions: a refused call changes nothing, and when each is refused; a refused packet brings one error reply only.
 use Prim.Native.Nat.{ℕ, _≤_, _<_}
 use mathlib.Core.Path.{_≡_, refl, sym, ap, _∙_}
 use mathlib.Core.List.{List, [], _∷_, _++_}

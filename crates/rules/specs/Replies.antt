@@ -4,7 +4,7 @@ use mathlib.Core.Path.{_≡_, refl}
 use mathlib.Core.List.{List, [], _∷_, _++_, map}
 use mathlib.Core.Bool.{Bool, true, false}
 use mathlib.Core.Option.{none, some}
-use lib.ListN.{length, replicate}
+use lib.ListN.{length, set, replicate}
 use Rattle.frame.specs.Frame.{Outcome, frame, refused, wire, escape, framed, body}
 use Rattle.frame.specs.Reading.{plain, emptied}
 use Rattle.frame.specs.Xor as xor
@@ -14,7 +14,7 @@ use Rattle.nodes.specs.Table as table
 use Rattle.nodes.specs.Table.{recordSize}
 use Rattle.sessions.specs.Search as search
 use Rattle.sessions.specs.Sessions as sessions
-use Rattle.sessions.specs.Sessions.{closedSlot}
+use Rattle.sessions.specs.Sessions.{slotCount, targetCount, closedSlot}
 use Rattle.sessions.specs.declared.Slot.{Slot}
 use Rattle.rules.specs.declared.Hub.{Hub}
 use Rattle.rules.specs.Hub as rules
@@ -27,18 +27,21 @@ abbrev hubWith : List Slot → Hub
 hubWith ss = record { password = replicate 32 0; logins = false ∷ false ∷ true ∷ false ∷ []; slots = ss }
 
 abbrev loggedIn : Hub
-loggedIn = hubWith (replicate 8 closedSlot)
+loggedIn = hubWith (replicate slotCount closedSlot)
 
--- session 0102 of line 2 with these nodes
+-- session 0102 of line 2 with these nodes, and with node n alone
 abbrev session : List Bool → Slot
 session nodes = record { used = true; number = 0x0102; line = 2; nodes = nodes }
 
-abbrev hubHolding : List Bool → Hub
-hubHolding nodes = hubWith (session nodes ∷ replicate 7 closedSlot)
+abbrev sessionWith : ℕ → Slot
+sessionWith n = session (set (replicate targetCount false) n true)
 
--- node 3 alone
+-- it is open in the lowest slot
+abbrev opened : Slot → Hub
+opened s = hubWith (set (loggedIn .slots) 0 s)
+
 abbrev moving : Hub
-moving = hubHolding (replicate 3 false ++ true ∷ replicate 196 false)
+moving = opened (sessionWith 3)
 
 -- the nodes below n are in use: each byte of their records is 1
 abbrev windows : ℕ → List ℕ
@@ -73,10 +76,11 @@ passwords =
     ∷ answers loggedIn (frame 0x3000 (replicate 32 1)) (wire 0x3001 (1 ∷ []))
     ∷ []
 
--- the order of judging: a refused packet, an unknown command, a wrong length, no login, a command that is not served
+-- the error frame
 abbrev error : ℕ → List ℕ
 error e = wire 0x0000 (e ∷ [])
 
+-- the order of judging: a refused packet, an unknown command, a wrong length, no login, a command that is not served
 abbrev errors : List Row
 errors =
     answers firstHub (refused 6) (error 2)
@@ -122,9 +126,9 @@ sent status = wire 0x0321 (0x01 ∷ 0x02 ∷ status ∷ [])
 abbrev modeSends : List Row
 modeSends =
     leaves loggedIn 4 (modeSend 1 (3 ∷ [])) moving (0xC0 ∷ 0x00 ∷ 0x06 ∷ 0x03 ∷ 0x21 ∷ 0x01 ∷ 0x02 ∷ 0x00 ∷ 0x27 ∷ 0xC0 ∷ [])
-    ∷ leaves loggedIn 200 (modeSend 1 (199 ∷ [])) (hubHolding (replicate 199 false ++ true ∷ [])) (sent 0)
+    ∷ leaves loggedIn 200 (modeSend 1 (199 ∷ [])) (opened (sessionWith 199)) (sent 0)
     ∷ leaves loggedIn 201 (modeSend 1 (200 ∷ [])) loggedIn (sent 5)
-    ∷ leaves loggedIn 20 (modeSend 20 (search.below 20)) (hubHolding (replicate 20 true ++ replicate 180 false)) (sent 0)
+    ∷ leaves loggedIn 20 (modeSend 20 (search.below 20)) (opened (session (replicate 20 true ++ replicate (targetCount - 20) false))) (sent 0)
     ∷ leaves loggedIn 20 (modeSend 21 (search.below 20)) loggedIn (sent 5)
     ∷ answers loggedIn (modeSend 0 (3 ∷ [])) (sent 5)
     ∷ []
@@ -132,8 +136,8 @@ modeSends =
 -- removing node 3 closes its session and no other; virgin state zeroes the table and closes the session, login and password stay
 abbrev removals : List Row
 removals =
-    row (hubWith (moving .slots ++ session (true ∷ replicate 199 false) ∷ [])) (windows 4) (frame 0x0106 (8 ∷ replicate 25 0))
-    (hubWith (loggedIn .slots ++ session (true ∷ replicate 199 false) ∷ [])) (windows 3 ++ replicate recordSize 0) (wire 0x0107 (0 ∷ []))
+    row (hubWith (set (moving .slots) 1 (sessionWith 0))) (windows 4) (frame 0x0106 (8 ∷ replicate 25 0))
+    (hubWith (set (loggedIn .slots) 1 (sessionWith 0))) (windows 3 ++ replicate recordSize 0) (wire 0x0107 (0 ∷ []))
     ∷ row moving (windows 4) (frame 0x0108 []) loggedIn (replicate (4 * recordSize) 0) (wire 0x0109 [])
     ∷ []
 

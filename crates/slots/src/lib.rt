@@ -1,4 +1,4 @@
-// The session slots: none open, one by its number, finishing it (document 01, host calls).
+// The session slots: a free one, one found by its number, and finishing it (document 01, host calls).
 // Each answer is the definition's: crate sessions, specs/Sessions.antt. It stands on the sessions' rules and the node table.
 ghost use mathlib.Core.Path.{_≡_};
 ghost use lib.ListN.{replicate};

@@ -1,13 +1,21 @@
 use native.Mathlib.Nat.{sub-zero}
 use Rattle.nodes.specs.TableLaws.{used-below}
-use Rattle.nodes.specs.Table.{setField}
+use Rattle.nodes.specs.Table.{nodeCount, inUse, setField}
 use Rattle.store.specs.WroteLaws.{take-min}
 use native.Mathlib.Omega.{arith}
 use borrow.Author.Tests.{not-true, not-false}
-use mathlib.Core.Path.{sym, _∙_, refl}
+use mathlib.Core.Path.{_≡_, sym, _∙_, refl}
+use mathlib.Core.Bool.{true}
+use Prim.Native.Nat.{_<_}
 use borrow.Author.Needs.{needs}
 use Rattle.fields.proofs.set_field.Statement.{statement}
 use Rattle.fields.proofs.set_field.Tie as tie
+
+used : (c : tie.Else1) → inUse (c .before .before .before .before .before .args .table .now) (c .before .before .before .before .before .args .node) ≡ true
+used c = sym (c .before .in-use .ensures) ∙ not-false _ (c .if1 .left)
+
+below : (c : tie.Else1) → c .before .before .before .before .before .args .node < nodeCount
+below c = used-below _ _ (used c)
 
 in-use-requires : tie.Need-in-use-requires
 in-use-requires c κs = search needs
@@ -23,10 +31,10 @@ least-requires : tie.Need-least-requires
 least-requires c κs = search needs
 
 mul-copy : tie.Need-mul-copy
-mul-copy c = let h = used-below _ _ (sym (c .before .before .before .in-use .ensures) ∙ not-false _ (c .before .before .if1 .left)) in omega arith
+mul-copy c = omega (arith, below (c .before .before))
 
 add-copy : tie.Need-add-copy
-add-copy c = let h = used-below _ _ (sym (c .before .before .before .in-use .ensures) ∙ not-false _ (c .before .before .if1 .left)) in omega arith
+add-copy c = omega (arith, below (c .before .before))
 
 sub-copy : tie.Need-sub-copy
 sub-copy c = search needs
@@ -45,7 +53,7 @@ same-length-2 c = search needs
 
 returns-2 : tie.Need-returns-2
 unfolding setField
-returns-2 c = simp (sym (c .before .before .before .before .before .before .before .in-use .ensures) ∙ not-false _ (c .before .before .before .before .before .before .if1 .left))
+returns-2 c = simp (used (c .before .before .before .before .before .before))
     (record { status = refl; table = c .before .before .copy .ensures ∙ rw (sub-zero, c .before .before .before .before .before .least .ensures, take-min) })
 
 pub set-field-spec : {M : Type 1} → statement M
