@@ -4,7 +4,7 @@ use mathlib.Core.Path.{_≡_, refl}
 use mathlib.Core.List.{List, [], _∷_, _++_, map}
 use mathlib.Core.Bool.{true, false}
 use mathlib.Core.Option.{none, some}
-use lib.ListN.{length, drop, replicate}
+use lib.ListN.{length, drop, set, replicate}
 use Rattle.nodes.specs.Table.{recordSize, inUse, bit}
 use Rattle.sessions.specs.declared.Slot.{Slot}
 use Rattle.sessions.specs.declared.ModeSend.{ModeSend}
@@ -31,7 +31,7 @@ request x ns = record { session = x; originator = 1; priority = 3; count = lengt
 
 -- the lowest of the eight slots has the session
 unfoldable busy : List Slot
-busy = sessionSlot 0 (request 1 (5 ∷ [])) ∷ replicate 7 closedSlot
+busy = set (replicate slotCount closedSlot) 0 (sessionSlot 0 (request 1 (5 ∷ [])))
 
 opened : modeSend (replicate slotCount closedSlot) nodes 0 (request 1 (5 ∷ [])) ≡ record { status = 0; slots = busy }
 unfolding nodes request busy modeSend isLegal targetsLegal inUse any first marked

@@ -1,3 +1,4 @@
+use Rattle.nodes.specs.Table.{recordSize}
 use Rattle.nodes.specs.TableLaws.{field-length}
 use native.Mathlib.Omega.{arith}
 use Prim.Native.Nat.{_+_, _-_, _*_}
@@ -36,7 +37,7 @@ same-length c = search needs
 returns : tie.Need-returns
 returns c =
     let q = c .before .before .before .before .before .before .before .before .pre in
-    let start = c .before .before .before .before .before .before .before .before .args .node * 72 + c .before .before .before .before .before .before .before .before .args .field .at in
+    let start = c .before .before .before .before .before .before .before .before .args .node * recordSize + c .before .before .before .before .before .before .before .before .args .field .at in
     let e : start + c .before .before .before .before .before .before .before .before .args .field .size - start ≡ c .before .before .before .before .before .before .before .before .args .field .size = omega arith in
     let long = field-length (c .before .before .before .before .before .before .before .before .args .table .now) (c .before .before .before .before .before .before .before .before .args .node) (c .before .before .before .before .before .before .before .before .args .field) (q .0) (q .1) (q .2) in
     (record { content = c .before .before .copy .ensures ∙ rw e; place = rw long }, refl)

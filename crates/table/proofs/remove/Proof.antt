@@ -8,6 +8,7 @@ use mathlib.Core.Path.{_≡_, ap, _∙_, refl}
 use Rattle.table.proofs.remove.Statement.{statement}
 use Rattle.table.proofs.remove.Tie as tie
 
+-- The nodes below k that the bits name are removed.
 abbrev Inv-loop : tie.InvT-loop
 Inv-loop table₀ bits k₀ table k = (k ≤ nodeCount) × (length table ≡ length table₀) × (table ≡ removeBelow bits k table₀)
 
