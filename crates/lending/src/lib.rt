@@ -1,6 +1,6 @@
 // The service's calls for a caller that keeps its records by value: a line's record is lent to the call, and given back beside what the
 // call gives. Each promises what the hub's call by value does: crate rules, specs/Promises.antt, and crate feeds, specs/Service.antt.
-// A caller of these needs no proof by hand, as one that lends a record itself does. It stands on `service`.
+// A caller of these needs no proof by hand, as one that lends a record itself does. It stands on `service` and the parts of an answer.
 ghost use Rattle.feeds.specs.Service.{Promise};
 ghost use Rattle.rules.specs.Hub.{hub as system};
 ghost use Rattle.rules.specs.Promises.{Closes};

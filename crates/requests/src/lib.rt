@@ -1,6 +1,6 @@
 // The requests: a frame on a line is judged, served and answered (document 01, "The command directory", "What the commands do").
 // Hub, table, reply and the room behind it are the definition's: crate rules, specs/Hub.antt: serve.
-// It stands on the frame layer's writing, the directory, the node table, the sessions and the logins.
+// It stands on the replies, the directory, the node table, the sessions, the passwords and the logins.
 ghost use Prim.Native.Nat.{_+_, _≤_};
 ghost use mathlib.Core.Path.{_≡_};
 ghost use mathlib.Core.List.{[], _∷_};

@@ -1,6 +1,6 @@
 // The hub's calls on a lent record: the serial service lends a line's reading, and the call changes it where it lies (document 01,
 // "From wire to packet"). Each call promises what the hub's call by value does: crate calls, specs/Lent.antt.
-// The demands of such calls: crate demands, specs/LentDemands.antt. It stands on the hub's calls by value.
+// The demands of such calls: crate demands, specs/LentDemands.antt. It stands on the hub's calls by value and the parts of their answers.
 ghost use Rattle.calls.specs.Lent.{FeedsLent, ClosesLent};
 use calls::ClosedLent;
 use calls::FedLent;
