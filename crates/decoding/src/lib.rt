@@ -8,6 +8,9 @@ ghost use Rattle.store.specs.Wrote.{Wrote};
 ghost use Rattle.script.specs.Script.{hexValue, allHex, isBytes, pairs};
 ghost use Rattle.script.specs.Answers.{fitting};
 
+// The word for no bytes.
+const NONE: [u8; 1] = *b"-";
+
 // The bytes of a word, to the front of `out`, whole or not at all; answers how many. A word that is not proper has none.
 pub fn decode(text: &[u8], out: &mut [u8]) -> usize
     ensures { λ r. ⌜ Wrote (now (out .entry)) 0 (fitting (length (now (out .entry))) (now (text .entry))) (now (out .exit)) r ⌝ }
@@ -25,7 +28,7 @@ pub fn decode(text: &[u8], out: &mut [u8]) -> usize
 pub fn is_bytes(text: &[u8]) -> bool
     ensures { λ r. ⌜ r ≡ isBytes (now (text .entry)) ⌝ }
 {
-    if spelling::is_same(text, b"-") {
+    if spelling::is_same(text, &NONE) {
         return true;
     }
     if text.len() == 0 {

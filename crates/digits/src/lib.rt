@@ -1,6 +1,6 @@
 // Numbers as the programs write them, in base ten and in four hexadecimal digits, appended to lent memory at a place.
-// A number is written whole or not at all, and is the definition's to the byte: crate text, specs/Text.antt, specs/Appended.antt.
-// It stands on the text's pieces of a line and the store's runs of bytes.
+// A number is written whole or not at all, and is the definition's to the byte: specs/Text.antt, specs/Appended.antt of `text`.
+// It stands on the room for words.
 ghost use Prim.Native.Nat.{_+_, _%_, _≤_};
 ghost use mathlib.Core.Path.{_≡_};
 ghost use lib.ListN.{length};

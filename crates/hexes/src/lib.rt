@@ -11,7 +11,7 @@ ghost use Rattle.answers.specs.Bytes.{hex2, hexPairs, bytesWord, wordLength};
 ghost use Rattle.text.specs.Text.{decimal};
 ghost use Rattle.text.specs.Appended.{appended, Leaves};
 
-// No bytes.
+// The word for no bytes.
 const NONE: [u8; 1] = *b"-";
 
 // A number between two words, some bytes, and the line's end.

@@ -1,6 +1,6 @@
 // The lines of the listing, appended to lent memory at a place.
 // A line is written whole or not at all, and is the definition's to the byte: specs/Lines.antt of `answers`.
-// It stands on the text's pieces of a line.
+// It stands on the pieces of a line, words and digits.
 ghost use Prim.Native.Nat.{_+_, _≤_};
 ghost use mathlib.Core.List.{_++_};
 ghost use lib.ListN.{length};

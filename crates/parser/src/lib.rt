@@ -1,11 +1,12 @@
 // A line of a script becomes a call; a line that is not exactly right is bad.
 // The answer is the definition's: crate script, specs/Script.antt, specs/Answers.antt. It stands on the format's definitions and the words.
 ghost use mathlib.Core.Path.{_≡_};
-ghost use Rattle.script.specs.Script.{numberUpTo, isBytes, tableOf, startOf, enrolOf, feedOf, closeOf, finishOf, showOf, called, parse};
+ghost use Rattle.script.specs.Script.{tableOf, startOf, enrolOf, feedOf, closeOf, finishOf, showOf, called, parse};
 ghost use Rattle.script.specs.Answers.{Tells};
-ghost use Rattle.script.specs.Code.{wordEnd, wordsFrom, first, lastNumber, told};
+ghost use Rattle.script.specs.Code.{wordEnd, wordsFrom, lastNumber, told, Numbered, Spelled};
 use script::Call;
 use script::Number;
+use script::Taken;
 
 // No line has more bytes.
 pub const LONGEST: usize = 40000;
@@ -23,6 +24,18 @@ const BYTE_MOST: usize = 255;
 // TYPE and SESSION.
 const PAIR_MOST: usize = 65535;
 
+const START: [u8; 5] = *b"start";
+
+const ENROL: [u8; 5] = *b"enrol";
+
+const FEED: [u8; 4] = *b"feed";
+
+const CLOSE: [u8; 5] = *b"close";
+
+const FINISH: [u8; 6] = *b"finish";
+
+const SHOW: [u8; 4] = *b"show";
+
 // The call that a line without its LF stands for.
 pub fn parse(line: &[u8]) -> Call
     ensures { λ r. ⌜ Tells (now (line .entry)) (parse (now (line .entry))) r ⌝ }
@@ -38,22 +51,22 @@ pub fn parse(line: &[u8]) -> Call
 fn called(word: &[u8], line: &[u8], from: usize) -> Call
     ensures { λ r. ⌜ Tells (now (line .entry)) (called (now (word .entry)) (wordsFrom (now (line .entry)) from)) r ⌝ }
 {
-    if spelling::is_same(word, b"start") {
+    if spelling::is_same(word, &START) {
         return start(line, from);
     }
-    if spelling::is_same(word, b"enrol") {
+    if spelling::is_same(word, &ENROL) {
         return enrol(line, from);
     }
-    if spelling::is_same(word, b"feed") {
+    if spelling::is_same(word, &FEED) {
         return feed(line, from);
     }
-    if spelling::is_same(word, b"close") {
+    if spelling::is_same(word, &CLOSE) {
         return close(line, from);
     }
-    if spelling::is_same(word, b"finish") {
+    if spelling::is_same(word, &FINISH) {
         return finish(line, from);
     }
-    if spelling::is_same(word, b"show") {
+    if spelling::is_same(word, &SHOW) {
         return show(line, from);
     }
     Call::Bad
@@ -63,17 +76,20 @@ fn called(word: &[u8], line: &[u8], from: usize) -> Call
 fn start(line: &[u8], from: usize) -> Call
     ensures { λ r. ⌜ Tells (now (line .entry)) (startOf (wordsFrom (now (line .entry)) from)) r ⌝ }
 {
-    if !has_bytes(line, from) {
+    let Taken::Word {
+        value: len,
+        next: second,
+    } = bytes_at(line, from)
+    else {
         return Call::Bad;
-    }
-    let end = word_end(line, from);
-    match table_at(line, end + 1) {
-        Number::Value(table) => Call::Start {
-            at: from,
-            len: end - from,
-            table: table,
-        },
-        Number::Nothing => Call::Bad,
+    };
+    let Number::Value(table) = table_at(line, second) else {
+        return Call::Bad;
+    };
+    Call::Start {
+        at: from,
+        len: len,
+        table: table,
     }
 }
 
@@ -81,14 +97,20 @@ fn start(line: &[u8], from: usize) -> Call
 fn enrol(line: &[u8], from: usize) -> Call
     ensures { λ r. ⌜ Tells (now (line .entry)) (enrolOf (wordsFrom (now (line .entry)) from)) r ⌝ }
 {
-    let Number::Value(node) = number_at(line, from, BYTE_MOST) else {
+    let Taken::Word {
+        value: node,
+        next: second,
+    } = number_at(line, from, BYTE_MOST)
+    else {
         return Call::Bad;
     };
-    let second = word_end(line, from) + 1;
-    let Number::Value(kind) = number_at(line, second, PAIR_MOST) else {
+    let Taken::Word {
+        value: kind,
+        next: third,
+    } = number_at(line, second, PAIR_MOST)
+    else {
         return Call::Bad;
     };
-    let third = word_end(line, second) + 1;
     let Number::Value(table) = table_at(line, third) else {
         return Call::Bad;
     };
@@ -103,26 +125,35 @@ fn enrol(line: &[u8], from: usize) -> Call
 fn feed(line: &[u8], from: usize) -> Call
     ensures { λ r. ⌜ Tells (now (line .entry)) (feedOf (wordsFrom (now (line .entry)) from)) r ⌝ }
 {
-    let Number::Value(number) = number_at(line, from, BYTE_MOST) else {
+    let Taken::Word {
+        value: number,
+        next: second,
+    } = number_at(line, from, BYTE_MOST)
+    else {
         return Call::Bad;
     };
-    let second = word_end(line, from) + 1;
-    let Number::Value(room) = number_at(line, second, ROOM_MOST) else {
+    let Taken::Word {
+        value: room,
+        next: third,
+    } = number_at(line, second, ROOM_MOST)
+    else {
         return Call::Bad;
     };
-    let third = word_end(line, second) + 1;
-    if !has_bytes(line, third) {
+    let Taken::Word {
+        value: len,
+        next: fourth,
+    } = bytes_at(line, third)
+    else {
         return Call::Bad;
-    }
-    let end = word_end(line, third);
-    let Number::Value(table) = table_at(line, end + 1) else {
+    };
+    let Number::Value(table) = table_at(line, fourth) else {
         return Call::Bad;
     };
     Call::Feed {
         line: number as u8,
         room: room,
         at: third,
-        len: end - third,
+        len: len,
         table: table,
     }
 }
@@ -141,10 +172,13 @@ fn close(line: &[u8], from: usize) -> Call
 fn finish(line: &[u8], from: usize) -> Call
     ensures { λ r. ⌜ Tells (now (line .entry)) (finishOf (wordsFrom (now (line .entry)) from)) r ⌝ }
 {
-    let Number::Value(session) = number_at(line, from, PAIR_MOST) else {
+    let Taken::Word {
+        value: session,
+        next: second,
+    } = number_at(line, from, PAIR_MOST)
+    else {
         return Call::Bad;
     };
-    let second = word_end(line, from) + 1;
     let Number::Value(room) = last_number(line, second, ROOM_MOST) else {
         return Call::Bad;
     };
@@ -165,14 +199,37 @@ fn show(line: &[u8], from: usize) -> Call
 }
 
 // The number in the word at `from`.
-fn number_at(line: &[u8], from: usize, most: usize) -> Number
-    ensures { λ r. ⌜ told r ≡ numberUpTo most (first (wordsFrom (now (line .entry)) from)) ⌝ }
+fn number_at(line: &[u8], from: usize, most: usize) -> Taken
+    ensures { λ r. ⌜ Numbered (now (line .entry)) from most r ⌝ }
 {
     if line.len() < from {
-        return Number::Nothing;
+        return Taken::Nothing;
     }
     let end = word_end(line, from);
-    spelling::number_in(&line[from..end], most)
+    let Number::Value(value) = spelling::number_in(&line[from..end], most) else {
+        return Taken::Nothing;
+    };
+    Taken::Word {
+        value: value,
+        next: end + 1,
+    }
+}
+
+// The word of bytes at `from`.
+fn bytes_at(line: &[u8], from: usize) -> Taken
+    ensures { λ r. ⌜ Spelled (now (line .entry)) from r ⌝ }
+{
+    if line.len() < from {
+        return Taken::Nothing;
+    }
+    let end = word_end(line, from);
+    if !decoding::is_bytes(&line[from..end]) {
+        return Taken::Nothing;
+    }
+    Taken::Word {
+        value: end - from,
+        next: end + 1,
+    }
 }
 
 // The number in the word at `from`, if no word follows.
@@ -197,17 +254,6 @@ fn table_at(line: &[u8], from: usize) -> Number
         return Number::Value(TABLE_RIGHT);
     }
     last_number(line, from, TABLE_MOST)
-}
-
-// Whether the word at `from` is one of bytes.
-fn has_bytes(line: &[u8], from: usize) -> bool
-    ensures { λ r. ⌜ r ≡ isBytes (first (wordsFrom (now (line .entry)) from)) ⌝ }
-{
-    if line.len() < from {
-        return false;
-    }
-    let end = word_end(line, from);
-    decoding::is_bytes(&line[from..end])
 }
 
 // Where the word ends that starts at `from`: at the next space, or with the line.

@@ -2,15 +2,13 @@
 use Prim.Native.Nat.{ℕ, _+_, _-_, _≤_, _<_}
 use mathlib.Core.Path.{_≡_, refl, sym, ap, _∙_}
 use mathlib.Core.List.{List, [], _∷_}
-use mathlib.Core.Bool.{Bool, true, false}
 use mathlib.Core.Option.{Option, none, some, Option·none-ne-some, Option·some-injective}
 use native.Mathlib.Omega.{arith}
 use lib.ListN.{length, take, drop}
-use lib.Dec.{leb}
-use borrow.Author.Tests.{leb-true, leb-false, le-leb, lt-leb}
+use borrow.Author.Tests.{le-leb, lt-leb}
 use Rattle.script.specs.Script.{longest, byteMost, pairMost, roomMost, tableMost, tableRight, words, same, ascii, isPlain, number, numberUpTo, isBytes, bytes, starts, enrols, feeds, closes, finishes, tableOf, startOf, enrolOf, feedOf, closeOf, finishOf, called, callOf, parse}
 use Rattle.script.specs.Code.{wordEnd, wordsFrom, first, rest, lastNumber}
-use Rattle.script.specs.WordLaws.{from-behind, from-within, from-first, from-cut}
+use Rattle.script.specs.WordLaws.{from-within, from-first, from-cut}
 use Rattle.script.specs.ByteLaws.{upTo-most}
 
 -- ---- a missing part
@@ -75,17 +73,6 @@ table-words w (v ∷ ws) = refl
 
 pub table-last : (l : List ℕ) (i : ℕ) → i ≤ length l → tableOf (wordsFrom l i) ≡ lastNumber tableMost (wordsFrom l i)
 table-last l i h = rw (from-cut l i h) (table-words _ _)
-
--- a word of bytes is no missing one
-pub bytes-there : (l : List ℕ) (i : ℕ) → isBytes (first (wordsFrom l i)) ≡ true → i ≤ length l
-unfolding isBytes same ascii
-bytes-there l i e = go (leb i (length l)) refl
-  where
-    go : (t : Bool) → leb i (length l) ≡ t → i ≤ length l
-    go true p = leb-true i (length l) p
-    go false p =
-        let none-such : false ≡ true = rw (from-behind l i (leb-false i (length l) p)) at e in
-        let z : _≡_ {A = ℕ} 0 1 = cc in absurd (omega arith)
 
 -- the part of the line up to the word's end is that word
 pub word-part : (l : List ℕ) (i e : ℕ) → i ≤ length l → e ≡ wordEnd l i → take (e - i) (drop i l) ≡ first (wordsFrom l i)

@@ -1,13 +1,16 @@
--- What the private functions answer.
-use Prim.Native.Nat.{ℕ, suc, _+_, min}
+-- What the functions of `spelling` and `parser` answer.
+use Prim.Native.Nat.{ℕ, suc, _+_, _≤_, min}
+use mathlib.Core.Path.{_≡_}
 use mathlib.Core.List.{List, [], _∷_}
-use mathlib.Core.Bool.{cond}
+use mathlib.Core.Bool.{true, false, cond}
 use mathlib.Core.Option.{Option, none, some}
-use lib.ListN.{length, drop}
+use lib.ListN.{length, take, drop}
 use lib.Dec.{leb, eqb}
 use Rattle.script.specs.declared.Number.{Number}
 use Rattle.script.specs.declared.Number.the-variants.{Value, Nothing}
-use Rattle.script.specs.Script.{space, words, numberUpTo}
+use Rattle.script.specs.declared.Taken.{Taken}
+use Rattle.script.specs.declared.Taken.the-variants as taken
+use Rattle.script.specs.Script.{space, words, numberUpTo, isBytes}
 
 -- how many bytes stand before the first space
 unfoldable pub wordLength : List ℕ → ℕ
@@ -41,3 +44,15 @@ lastNumber most (w ∷ v ∷ ws) = none
 abbrev pub told : Number → Option ℕ
 told (Value n) = some n
 told Nothing = none
+
+-- the number in the word at a place, up to the most that it may be; the other words start at `next`
+abbrev pub Numbered : List ℕ → ℕ → ℕ → Taken → Type 0
+Numbered l from most (taken.Word value next) =
+    (numberUpTo most (first (wordsFrom l from)) ≡ some value) × (rest (wordsFrom l from) ≡ wordsFrom l next)
+Numbered l from most taken.Nothing = numberUpTo most (first (wordsFrom l from)) ≡ none
+
+-- the word of bytes at a place, within the line
+abbrev pub Spelled : List ℕ → ℕ → Taken → Type 0
+Spelled l from (taken.Word len next) =
+    (isBytes (first (wordsFrom l from)) ≡ true) × (rest (wordsFrom l from) ≡ wordsFrom l next) × (take len (drop from l) ≡ first (wordsFrom l from)) × (from + len ≤ length l)
+Spelled l from taken.Nothing = isBytes (first (wordsFrom l from)) ≡ false

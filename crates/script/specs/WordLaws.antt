@@ -64,6 +64,10 @@ pub end-behind : (l : List ℕ) (i : ℕ) → i ≤ length l → i ≤ wordEnd l
 unfolding wordEnd
 end-behind l i h = omega arith
 
+-- it lies between the word's start and the line's end
+pub end-part : (l : List ℕ) (i e : ℕ) → i ≤ length l → e ≡ wordEnd l i → (i ≤ e) × (e ≤ length l)
+end-part l i e h p = rw p (end-behind l i h, end-within l i)
+
 end-is : (l : List ℕ) (i : ℕ) → i ≤ length l → wordEnd l i ≡ i + wordLength (drop i l)
 unfolding wordEnd
 end-is l i h = omega (arith, length-word (drop i l), length-drop i l)

@@ -36,3 +36,9 @@ pub enum Number {
     Value(usize),
     Nothing,
 }
+
+// A word that is as it must be: its number, or how long it is, and where the next word starts.
+pub enum Taken {
+    Word { value: usize, next: usize },
+    Nothing,
+}

@@ -1,16 +1,15 @@
 -- A text that fits, one that does not, and two one behind the other.
 use Prim.Native.Nat.{ℕ, _+_, _≤_, _<_}
-use mathlib.Core.Path.{_≡_, refl, sym, _∙_}
+use mathlib.Core.Path.{_≡_, refl}
 use mathlib.Core.List.{List, _++_}
 use mathlib.Core.Bool.{Bool, true, false, cond}
-use native.Mathlib.Nat.{add-assoc}
 use native.Mathlib.Omega.{arith}
 use lib.ListN.{length, length-append}
-use lib.Seq.{sets, length-sets}
+use lib.Seq.{sets}
 use lib.Dec.{leb}
 use borrow.Author.Tests.{leb-true, le-leb, lt-leb}
 use Rattle.store.specs.Wrote.{Wrote}
-use Rattle.store.specs.WroteLaws.{sets-append, then, kept}
+use Rattle.store.specs.WroteLaws.{then, kept}
 use Rattle.text.specs.Appended.{Memory, appended, Leaves}
 
 pub appended-whole : (l : List ℕ) (at : ℕ) (text : List ℕ) → at + length text ≤ length l
@@ -55,10 +54,3 @@ fitting-then {l} {m} {n} {at} {a} {e} {xs} ys front x h =
 
 pub leaves-none : (l : List ℕ) (at : ℕ) (text : List ℕ) → length l < at + length text → Leaves (appended l at text) l at
 leaves-none l at text h = rw (appended-none l at text h) (record { bytes = refl; place = refl })
-
-pub appended-both : (l : List ℕ) (at : ℕ) (x y : List ℕ) → at + (length x + length y) ≤ length l
-    → appended (appended l at x .bytes) (appended l at x .place) y ≡ appended l at (x ++ y)
-appended-both l at x y h =
-    rw (appended-whole l at x (omega arith))
-    (appended-whole (sets l at x) (at + length x) y (simp length-sets (omega arith))
-    ∙ rw (sets-append, add-assoc at (length x) (length y), ← length-append x y) (sym (appended-whole l at (x ++ y) (simp length-append h))))

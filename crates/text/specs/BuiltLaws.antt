@@ -1,5 +1,5 @@
 -- A line is built piece by piece, and then it is taken from the front.
-use Prim.Native.Nat.{ℕ, _+_, _-_, _^_, _≤_, _<_}
+use Prim.Native.Nat.{ℕ, _+_, _-_, _≤_}
 use mathlib.Core.Path.{_≡_, sym, ap, _∙_}
 use mathlib.Core.List.{List, [], _++_}
 use native.Mathlib.Nat.{zero-add, le-refl}
@@ -8,8 +8,6 @@ use lib.ListN.{length, length-append, take, drop}
 use lib.Seq.{take-at}
 use Rattle.store.specs.Wrote.{Wrote}
 use Rattle.store.specs.WroteLaws.{none, then, kept, front-to}
-use Rattle.text.specs.Text.{decimal}
-use Rattle.text.specs.DecimalLaws.{decimal-short}
 use Rattle.text.specs.Appended.{appended, Leaves}
 use Rattle.text.specs.AppendedLaws.{leaves-wrote}
 use Rattle.text.specs.Built.{Built}
@@ -36,10 +34,6 @@ built-more {size} {most} {m} {n} {a} {e} {xs} ys k h room x b =
 pub built-word : {size most : ℕ} {m n : List ℕ} {a e : ℕ} {xs : List ℕ} (ys : List ℕ) → most + length ys ≤ size → Leaves (appended m a ys) n e
     → Built size most xs m a → Built size (most + length ys) (xs ++ ys) n e
 built-word ys room x b = built-more ys (length ys) (le-refl (length ys)) room x b
-
-pub built-number : {size most : ℕ} {m n : List ℕ} {a e : ℕ} {xs : List ℕ} (number : ℕ) → number < 2 ^ 64 → most + 20 ≤ size → Leaves (appended m a (decimal number)) n e
-    → Built size most xs m a → Built size (most + 20) (xs ++ decimal number) n e
-built-number number h room x b = built-more (decimal number) 20 (decimal-short number h) room x b
 
 -- what was built is no longer than the room
 pub built-all : {size most : ℕ} {m : List ℕ} {a : ℕ} {xs : List ℕ} → most ≤ size → Built size most xs m a → Built size size xs m a

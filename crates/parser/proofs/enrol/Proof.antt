@@ -1,45 +1,20 @@
-use Prim.Native.Nat.{ℕ, _+_, _≤_}
-use mathlib.Core.Path.{_≡_, refl, sym, ap, _∙_}
-use mathlib.Core.List.{List}
-use mathlib.Core.Option.{some}
+use mathlib.Core.Path.{refl, sym, ap, _∙_}
 use native.Mathlib.Omega.{arith}
-use borrow.Author.Needs.{needs}
-use Rattle.script.specs.Script.{byteMost, pairMost, numberUpTo, tableOf}
-use Rattle.script.specs.Code.{wordsFrom, first, rest, told}
-use Rattle.script.specs.WordLaws.{end-within, from-rest}
+use Rattle.script.specs.Script.{byteMost, pairMost}
+use Rattle.script.specs.Code.{told, Numbered}
+use Rattle.script.specs.declared.Taken.the-variants.{Word}
 use Rattle.script.specs.ByteLaws.{upTo-most}
 use Rattle.script.specs.CallLaws.{enrol-parts, table-most}
+use borrow.Author.Needs.{needs}
 use Rattle.parser.proofs.enrol.Statement.{statement}
 use Rattle.parser.proofs.enrol.Tie as tie
 
--- the words behind the call word
-abbrev words-of : tie.Start → List (List ℕ)
-words-of s = wordsFrom (s .args .line .now) (s .args .from)
+-- the two numbers
+node : (c : tie.After-node) → Numbered (c .before .before .before .before .args .line .now) (c .before .before .before .before .args .from) byteMost (Word (c .node .given .0 .0) (c .node .given .0 .1 .0))
+node c = rw (c .node .given .1) at (c .before .before .number-at .ensures)
 
-node : (c : tie.After-node) → numberUpTo byteMost (first (words-of (c .before .before .before .before))) ≡ some (c .node .given .0 .0)
-node c = sym (c .before .before .number-at .ensures) ∙ ap told (c .node .given .1)
-
-node-most : (c : tie.After-node) → c .node .given .0 .0 ≤ byteMost
-node-most c = upTo-most _ _ _ (node c)
-
--- each word starts behind the end of the one before it
-behind-first : (c : tie.After-word-end) → rest (words-of (c .before .before .before .before .before .before)) ≡ wordsFrom (c .before .before .before .before .before .before .args .line .now) (c .word-end .result + 1)
-behind-first c = rw (from-rest (c .before .before .before .before .before .before .args .line .now) (c .before .before .before .before .before .before .args .from), ← c .word-end .ensures)
-
-second : (c : tie.After-number-at2) → numberUpTo pairMost (first (rest (words-of (c .before .before .before .before .before .before .before)))) ≡ told (c .number-at2 .result)
-second c = rw (behind-first (c .before)) (sym (c .number-at2 .ensures))
-
-kind : (c : tie.After-kind) → numberUpTo pairMost (first (rest (words-of (c .before .before .before .before .before .before .before .before .before)))) ≡ some (c .kind .given .0 .0)
-kind c = second (c .before .before) ∙ ap told (c .kind .given .1)
-
-kind-most : (c : tie.After-kind) → c .kind .given .0 .0 ≤ pairMost
-kind-most c = upTo-most _ _ _ (kind c)
-
-third : (c : tie.After-table-at) → tableOf (rest (rest (words-of (c .before .before .before .before .before .before .before .before .before .before .before .before)))) ≡ told (c .table-at .result)
-third c = rw (behind-first (c .before .before .before .before .before .before), from-rest (c .before .before .before .before .before .before .before .before .before .before .before .before .args .line .now) (c .before .before .before .before .before .before .word-end .result + 1), ← c .before .word-end2 .ensures) (sym (c .table-at .ensures))
-
-table : (c : tie.After-table) → tableOf (rest (rest (words-of (c .before .before .before .before .before .before .before .before .before .before .before .before .before .before)))) ≡ some (c .table .given .0 .0)
-table c = third (c .before .before) ∙ ap told (c .table .given .1)
+kind : (c : tie.After-kind) → Numbered (c .before .before .before .before .before .before .before .before .args .line .now) (c .before .before .before .before .node .given .0 .1 .0) pairMost (Word (c .kind .given .0 .0) (c .kind .given .0 .1 .0))
+kind c = rw (c .kind .given .1) at (c .before .before .number-at2 .ensures)
 
 number-at-requires : tie.Need-number-at-requires
 number-at-requires c κs = search needs
@@ -51,13 +26,7 @@ enum-told : tie.Need-enum-told
 enum-told c = search needs
 
 returns : tie.Need-returns
-returns c = rw (enrol-parts _, ← c .before .before .number-at .ensures, c .enum-told .given .1) (record { call = refl; within = tt })
-
-word-end-requires : tie.Need-word-end-requires
-word-end-requires c κs = search needs
-
-add-second : tie.Need-add-second
-add-second c = let h = end-within (c .before .before .before .before .before .before .args .line .now) (c .before .before .before .before .before .before .args .from) in omega arith
+returns c = rw (enrol-parts _, rw (c .enum-told .given .1) at (c .before .before .number-at .ensures)) (record { call = refl; within = tt })
 
 number-at-requires-2 : tie.Need-number-at-requires-2
 number-at-requires-2 c κs = search needs
@@ -69,13 +38,9 @@ enum-told-2 : tie.Need-enum-told-2
 enum-told-2 c = search needs
 
 returns-2 : tie.Need-returns-2
-returns-2 c = rw (enrol-parts _, node (c .before .before .before .before .before), second (c .before .before), c .enum-told2 .given .1) (record { call = refl; within = tt })
-
-word-end-requires-2 : tie.Need-word-end-requires-2
-word-end-requires-2 c κs = search needs
-
-add-third : tie.Need-add-third
-add-third c = let h = end-within (c .before .before .before .before .before .before .before .before .before .before .before .args .line .now) (c .before .before .before .before .before .word-end .result + 1) in omega arith
+returns-2 c =
+    let n = node (c .before .before .before .before) in
+    rw (enrol-parts _, n .0, n .1, rw (c .enum-told2 .given .1) at (c .before .before .number-at2 .ensures)) (record { call = refl; within = tt })
 
 table-at-requires : tie.Need-table-at-requires
 table-at-requires c κs = search needs
@@ -88,22 +53,22 @@ enum-told-3 c = search needs
 
 returns-3 : tie.Need-returns-3
 returns-3 c =
-    let at-third = c .before .before in
-    let at-kind = at-third .before .before .before in
-    let at-node = at-kind .before .before .before .before .before in
-    rw (enrol-parts _, node at-node, kind at-kind, third at-third, c .enum-told3 .given .1) (record { call = refl; within = tt })
+    let n = node (c .before .before .before .before .before .before .before .before) in
+    let k = kind (c .before .before .before .before) in
+    rw (enrol-parts _, n .0, n .1, k .0, k .1, ← c .before .before .table-at .ensures, c .enum-told3 .given .1) (record { call = refl; within = tt })
+
+cast-t11 : tie.Need-cast-t11
+cast-t11 c = omega (arith, upTo-most _ _ _ (node (c .before .before .before .before .before .before .before .before .before) .0))
 
 cast-t12 : tie.Need-cast-t12
-cast-t12 c = let h = node-most (c .before .before .before .before .before .before .before .before .before .before .before) in omega arith
-
-cast-t13 : tie.Need-cast-t13
-cast-t13 c = let h = kind-most (c .before .before .before .before .before .before) in omega arith
+cast-t12 c = omega (arith, upTo-most _ _ _ (kind (c .before .before .before .before .before) .0))
 
 returns-4 : tie.Need-returns-4
 returns-4 c =
-    let at-kind = c .before .before .before .before .before .before in
-    let at-node = at-kind .before .before .before .before .before in
-    rw (enrol-parts _, node at-node, kind at-kind, table (c .before)) (record { call = refl; within = table-most _ _ (table (c .before)) })
+    let n = node (c .before .before .before .before .before .before .before .before .before) in
+    let k = kind (c .before .before .before .before .before) in
+    let t = sym (c .before .before .before .table-at .ensures) ∙ ap told (c .before .table .given .1) in
+    rw (enrol-parts _, n .0, n .1, k .0, k .1, t) (record { call = refl; within = table-most _ _ t })
 
 pub enrol-spec : {M : Type 1} → statement M
 enrol-spec =
@@ -113,18 +78,14 @@ enrol-spec =
     enum-known-node
     enum-told
     returns
-    word-end-requires
-    add-second
     number-at-requires-2
     enum-known-kind
     enum-told-2
     returns-2
-    word-end-requires-2
-    add-third
     table-at-requires
     enum-known-table
     enum-told-3
     returns-3
+    cast-t11
     cast-t12
-    cast-t13
     returns-4)

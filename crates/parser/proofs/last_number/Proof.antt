@@ -3,16 +3,13 @@ use mathlib.Core.Path.{sym}
 use native.Mathlib.Omega.{arith}
 use lib.ListN.{length}
 use borrow.Author.Needs.{needs}
-use Rattle.script.specs.WordLaws.{end-behind, end-within, from-behind, last-not, last-is}
+use Rattle.script.specs.WordLaws.{end-part, from-behind, last-not, last-is}
 use Rattle.parser.proofs.last_number.Statement.{statement}
 use Rattle.parser.proofs.last_number.Tie as tie
 
 -- the word's end lies between its start and the line's end
-behind : (c : tie.Else2) → c .before .before .before .before .args .from ≤ c .before .word-end .result
-behind c = rw (c .before .word-end .ensures) (end-behind _ _ (c .before .before .if1 .left))
-
-within : (c : tie.Else2) → c .before .word-end .result ≤ length (c .before .before .before .before .args .line .now)
-within c = rw (c .before .word-end .ensures) (end-within _ _)
+end : (c : tie.Else2) → (c .before .before .before .before .args .from ≤ c .before .word-end .result) × (c .before .word-end .result ≤ length (c .before .before .before .before .args .line .now))
+end c = end-part _ _ _ (c .before .before .if1 .left) (c .before .word-end .ensures)
 
 returns : tie.Need-returns
 returns c = rw (from-behind _ _ (c .if1 .taken))
@@ -24,13 +21,13 @@ returns-2 : tie.Need-returns-2
 returns-2 c = sym (last-not _ _ _ (c .before .before .if1 .left) (rw (c .before .word-end .ensures) at (c .if2 .taken)))
 
 sub-number-in : tie.Need-sub-number-in
-sub-number-in c = behind c
+sub-number-in c = end c .0
 
 part-number-in-start : tie.Need-part-number-in-start
-part-number-in-start c = let h = behind c in let g = within c in omega arith
+part-number-in-start c = omega (arith, end c .0, end c .1)
 
 part-number-in-end : tie.Need-part-number-in-end
-part-number-in-end c = let h = behind c in let g = within c in omega arith
+part-number-in-end c = omega (arith, end c .0, end c .1)
 
 number-in-requires : tie.Need-number-in-requires
 number-in-requires c κs = search needs
