@@ -28,67 +28,69 @@ const DATA: usize = LONGEST / 2;
 // The output buffer is written when it has more than this: what is left holds any answer, `show` with all slots and nodes too.
 const FULL: usize = 16384;
 
-// What lasts from call to call, beside the table; the place in the output, and whether it was taken.
+// What lasts from call to call, beside the table; the place in the output, how many bytes of an open line are held, and whether
+// the replay goes on.
 struct Run {
     hub: Hub,
     readings: [Reading; LINES],
     at: usize,
+    held: usize,
     going: bool,
 }
 
-// The run after some input, and how many bytes of an open line are held.
-struct Taken {
-    run: Run,
-    held: usize,
+fn first() -> Run
+    ensures { λ r. ⌜ r .held ≡ 0 ⌝ }
+{
+    let reading = reader::emptied();
+    after(host::first(), [reading; LINES], 0)
 }
 
-fn first() -> Run {
-    let hub = host::first();
-    let reading = reader::emptied();
+// The run after a call.
+fn after(hub: Hub, readings: [Reading; LINES], at: usize) -> Run
+    ensures { λ r. ⌜ r .held ≡ 0 ⌝ }
+{
     Run {
         hub: hub,
-        readings: [reading; LINES],
-        at: 0,
+        readings: readings,
+        at: at,
+        held: 0,
         going: true,
     }
 }
 
-// The run with another hub and another place in the output.
-fn moved(run: Run, hub: Hub, at: usize) -> Run {
+// The run at another place.
+fn placed(run: Run, at: usize, held: usize, going: bool) -> Run
+    ensures { λ r. ⌜ r .held ≡ held ⌝ }
+{
+    let hub = run.hub;
     let readings = run.readings;
     Run {
         hub: hub,
         readings: readings,
         at: at,
-        going: true,
+        held: held,
+        going: going,
     }
 }
 
 // A line above 3 has no record of its own: it is lent an emptied one.
-fn reading_of(run: Run, line: u8) -> Reading {
+fn reading_of(readings: [Reading; LINES], line: u8) -> Reading {
     let k = line as usize;
     if LINES <= k {
         return reader::emptied();
     }
-    let readings = run.readings;
     readings[k]
 }
 
-// The run with the record that was lent.
-fn with_reading(run: Run, line: u8, reading: Reading) -> Run {
+// The records with the one that was lent.
+fn with_reading(readings: [Reading; LINES], line: u8, reading: Reading) -> [Reading; LINES] {
     let k = line as usize;
     if LINES <= k {
-        return run;
+        return readings;
     }
-    let hub = run.hub;
-    let mut readings = run.readings;
-    readings[k] = reading;
-    Run {
-        hub: hub,
-        readings: readings,
-        at: run.at,
-        going: true,
-    }
+    let mut out = readings;
+    out[k] = reading;
+    out
 }
 
 fn least(a: usize, b: usize) -> usize
@@ -105,42 +107,39 @@ fn least(a: usize, b: usize) -> usize
 fn start(run: Run, table: &mut [u8], word: &[u8], out: &mut [u8]) -> Run {
     let mut bytes = [0u8; DATA];
     let n = least(decoding::decode(word, &mut bytes), DATA);
-    let hub = run.hub;
-    let started = host::start(hub, table, &bytes[0..n]);
-    let next = started.hub;
+    let started = host::start(run.hub, table, &bytes[0..n]);
     let answer = started.answer;
     let end = answering::call_line(out, run.at, answer);
-    moved(run, next, end)
+    let readings = run.readings;
+    after(started.hub, readings, end)
 }
 
 fn enrol(run: Run, table: &mut [u8], node: u8, kind: u16, out: &mut [u8]) -> Run {
     let answer = host::enrol(table, node, kind);
     let end = answering::call_line(out, run.at, answer);
-    let hub = run.hub;
-    moved(run, hub, end)
+    let readings = run.readings;
+    after(run.hub, readings, end)
 }
 
 fn close(run: Run, line: u8, out: &mut [u8]) -> Run {
-    let hub = run.hub;
-    let closed = lending::close(hub, reading_of(run, line), line);
-    let next = closed.hub;
-    let reading = closed.reading;
+    let readings = run.readings;
+    let closed = lending::close(run.hub, reading_of(readings, line), line);
     let answer = closed.answer;
     let end = answering::call_line(out, run.at, answer);
-    moved(with_reading(run, line, reading), next, end)
+    let kept = with_reading(readings, line, closed.reading);
+    after(closed.hub, kept, end)
 }
 
 fn finish(run: Run, session: u16, lent: usize, out: &mut [u8]) -> Run
     requires { ⌜ lent ≤ roomMost ⌝ }
 {
-    let hub = run.hub;
     let mut space = [FILLER; ROOM_MOST];
     let room: &mut [u8] = &mut space;
-    let finished = host::finish(hub, session, &mut room[0..lent]);
-    let next = finished.hub;
+    let finished = host::finish(run.hub, session, &mut room[0..lent]);
     let answer = finished.answer;
     let end = answering::finish_line(out, run.at, answer, room);
-    moved(run, next, end)
+    let readings = run.readings;
+    after(finished.hub, readings, end)
 }
 
 fn feed(run: Run, table: &mut [u8], line: u8, word: &[u8], lent: usize, out: &mut [u8]) -> Run
@@ -154,35 +153,33 @@ fn feed(run: Run, table: &mut [u8], line: u8, word: &[u8], lent: usize, out: &mu
 fn feed_bytes(run: Run, table: &mut [u8], line: u8, wire: &[u8], lent: usize, out: &mut [u8]) -> Run
     requires { ⌜ lent ≤ roomMost ⌝ }
 {
-    let hub = run.hub;
+    let readings = run.readings;
     let mut space = [FILLER; ROOM_MOST];
     let room: &mut [u8] = &mut space;
     let fed = lending::feed(
-        hub,
+        run.hub,
         table,
-        reading_of(run, line),
+        reading_of(readings, line),
         line,
         wire,
         &mut room[0..lent],
     );
-    let next = fed.hub;
-    let reading = fed.reading;
     let answer = fed.answer;
     let end = answering::feed_line(out, run.at, answer, room);
-    moved(with_reading(run, line, reading), next, end)
+    let kept = with_reading(readings, line, fed.reading);
+    after(fed.hub, kept, end)
 }
 
 fn show(run: Run, table: &[u8], out: &mut [u8]) -> Run {
-    let hub = run.hub;
     let readings = run.readings;
-    let end = showing::show(out, run.at, hub, table, readings);
-    moved(run, hub, end)
+    let end = showing::show(out, run.at, run.hub, table, readings);
+    after(run.hub, readings, end)
 }
 
 fn bad(run: Run, out: &mut [u8]) -> Run {
-    let hub = run.hub;
     let end = report::bad_line(out, run.at);
-    moved(run, hub, end)
+    let readings = run.readings;
+    after(run.hub, readings, end)
 }
 
 // ---- lines
@@ -223,15 +220,7 @@ fn flush(run: Run, out: &[u8], most: usize) -> Run {
         return run;
     }
     let n = least(at, out.len());
-    let going = io::write_all(STDOUT_FILENO, &out[0..n]);
-    let hub = run.hub;
-    let readings = run.readings;
-    Run {
-        hub: hub,
-        readings: readings,
-        at: 0,
-        going: going,
-    }
+    placed(run, 0, 0, io::write_all(STDOUT_FILENO, &out[0..n]))
 }
 
 // Where the line that goes on at `from` ends: at its LF, or at the end of the bytes.
@@ -249,30 +238,6 @@ fn line_end(bytes: &[u8], from: usize) -> usize
     i
 }
 
-// The lines of some bytes, of which the first `held` have no LF. The answer holds the bytes behind the last LF.
-fn take(run: Run, bytes: &[u8], held: usize, table: &mut [u8], out: &mut [u8]) -> Taken
-    requires { ⌜ (length (now table) ≡ tableMost) × (held ≤ length (now bytes)) ⌝ }
-    ensures { λ r. ⌜ r .held ≤ length (now (bytes .entry)) ⌝ }
-{
-    let mut all = run;
-    let mut from = 0;
-    let mut end = line_end(bytes, held);
-    while end < bytes.len() {
-        let next = end + 1;
-        let after = flush(play(all, &bytes[from..end], table, out), out, FULL);
-        all = after;
-        if !all.going {
-            return Taken { run: all, held: 0 };
-        }
-        from = next;
-        end = line_end(bytes, from);
-    }
-    Taken {
-        run: all,
-        held: end - from,
-    }
-}
-
 // The open line moves to the text's front; of one that is too long, as many bytes as show it.
 fn keep(text: &mut [u8], from: usize, held: usize) -> usize
     requires { ⌜ from + held ≤ length (now text) ⌝ }
@@ -287,26 +252,35 @@ fn keep(text: &mut [u8], from: usize, held: usize) -> usize
     n
 }
 
-// The text has bytes up to `end`, of which the first `held` are those of the open line.
-fn more(
-    run: Run,
-    text: &mut [u8],
-    held: usize,
-    end: usize,
-    table: &mut [u8],
-    out: &mut [u8],
-) -> Taken
-    requires { ⌜ (length (now table) ≡ tableMost) × (held ≤ end) × (end ≤ length (now text)) ⌝ }
+// The lines of some bytes, of which the first `seen` have no LF; those behind the last LF are held.
+fn take(run: Run, bytes: &[u8], seen: usize, table: &mut [u8], out: &mut [u8]) -> Run
+    requires { ⌜ (length (now table) ≡ tableMost) × (seen ≤ length (now bytes)) ⌝ }
+{
+    let mut all = run;
+    let mut from = 0;
+    let mut end = line_end(bytes, seen);
+    while end < bytes.len() {
+        let next = end + 1;
+        let played = flush(play(all, &bytes[from..end], table, out), out, FULL);
+        all = played;
+        if !all.going {
+            return all;
+        }
+        from = next;
+        end = line_end(bytes, from);
+    }
+    placed(all, all.at, end - from, true)
+}
+
+// The text has bytes up to `end`, of which the first `seen` are those of the open line.
+fn more(run: Run, text: &mut [u8], seen: usize, end: usize, table: &mut [u8], out: &mut [u8]) -> Run
+    requires { ⌜ (length (now table) ≡ tableMost) × (seen ≤ end) × (end ≤ length (now text)) ⌝ }
     ensures { λ r. ⌜ r .held ≤ longest + 1 ⌝ }
 {
-    let taken = take(run, &text[0..end], held, table, out);
-    let after = taken.run;
-    let rest = taken.held;
-    let kept = keep(text, end - rest, rest);
-    Taken {
-        run: after,
-        held: kept,
-    }
+    let taken = take(run, &text[0..end], seen, table, out);
+    let open = least(taken.held, end);
+    let held = keep(text, end - open, open);
+    placed(taken, taken.at, held, taken.going)
 }
 
 // At the end of the input, what follows the last LF is a line if it is not empty, and the rest of the output is due.
@@ -320,36 +294,20 @@ fn last(run: Run, line: &[u8], table: &mut [u8], out: &mut [u8]) -> Run
 }
 
 // Reads once.
-fn turn(run: Run, text: &mut [u8], held: usize, table: &mut [u8], out: &mut [u8]) -> Taken
-    requires { ⌜ (length (now table) ≡ tableMost) × (longest < length (now text)) × (held ≤ longest + 1) ⌝ }
+fn turn(run: Run, text: &mut [u8], table: &mut [u8], out: &mut [u8]) -> Run
+    requires { ⌜ (length (now table) ≡ tableMost) × (longest < length (now text)) × (run .held ≤ longest + 1) ⌝ }
     ensures { λ r. ⌜ r .held ≤ longest + 1 ⌝ }
 {
+    let held = run.held;
     let got = libc::read(STDIN_FILENO, &mut text[held..]);
     if got < 0 {
-        return stopped(run);
+        return placed(run, 0, 0, false);
     }
     if got == 0 {
-        return stopped(last(run, &text[0..held], table, out));
+        return placed(last(run, &text[0..held], table, out), 0, 0, false);
     }
     let n = io::count(got, &text[held..]);
     more(run, text, held, held + n, table, out)
-}
-
-// There is no more input.
-fn stopped(run: Run) -> Taken
-    ensures { λ r. ⌜ r .held ≡ 0 ⌝ }
-{
-    let hub = run.hub;
-    let readings = run.readings;
-    Taken {
-        run: Run {
-            hub: hub,
-            readings: readings,
-            at: 0,
-            going: false,
-        },
-        held: 0,
-    }
 }
 
 fn main() {
@@ -357,13 +315,10 @@ fn main() {
     let mut text = [0u8; TEXT];
     let mut out = io::large_buffer();
     let mut run = first();
-    let mut held = 0;
     let mut turns: u64 = 18446744073709551615;
     while 0 < turns {
-        let next = turn(run, &mut text, held, &mut table, &mut out);
-        let after = next.run;
-        run = after;
-        held = next.held;
+        let next = turn(run, &mut text, &mut table, &mut out);
+        run = next;
         if !run.going {
             return;
         }

@@ -6,10 +6,10 @@ use Rattle.replay.proofs.take.Statement.{statement}
 use Rattle.replay.proofs.take.Tie as tie
 
 abbrev Inv-loop : tie.InvT-loop
-Inv-loop bytes held table₀ out₀ all₀ from₀ end₀ table out all from end = (length table ≡ length table₀) × (length out ≡ length out₀) × (from ≤ end) × (end ≤ length bytes)
+Inv-loop bytes seen table₀ out₀ all₀ from₀ end₀ table out all from end = (length table ≡ length table₀) × (length out ≡ length out₀) × (from ≤ end) × (end ≤ length bytes)
 
 abbrev μ-loop : tie.MeasureT-loop
-μ-loop bytes held table₀ out₀ all₀ from₀ end₀ table out all from end = length bytes - end
+μ-loop bytes seen table₀ out₀ all₀ from₀ end₀ table out all from end = length bytes - end
 
 line-end-requires : tie.Need-line-end-requires Inv-loop μ-loop
 line-end-requires c κs = search needs
@@ -53,8 +53,11 @@ loop-less c = search needs
 loop-again : tie.Need-loop-again Inv-loop μ-loop
 loop-again c = search needs
 
-sub-t23 : tie.Need-sub-t23 Inv-loop μ-loop
-sub-t23 c = search needs
+sub-placed : tie.Need-sub-placed Inv-loop μ-loop
+sub-placed c = search needs
+
+placed-requires : tie.Need-placed-requires Inv-loop μ-loop
+placed-requires c κs = search needs
 
 same-length-3 : tie.Need-same-length-3 Inv-loop μ-loop
 same-length-3 c = search needs
@@ -85,7 +88,8 @@ take-spec =
     line-end-requires-2
     loop-less
     loop-again
-    sub-t23
+    sub-placed
+    placed-requires
     same-length-3
     same-length-4
     returns-2)
