@@ -4,7 +4,6 @@ use mathlib.Core.Path.{_≡_}
 use mathlib.Core.List.{List, [], _++_}
 use mathlib.Core.Logic.{_⊎_}
 use lib.ListN.{length, take, drop}
-use Rattle.line.specs.declared.Reading.{Reading}
 use Rattle.line.specs.declared.Place.{Place}
 use Rattle.frame.specs.Line.{limit, Clear}
 use Rattle.frame.specs.declared.Outcome.{Outcome as Given}

@@ -1,7 +1,7 @@
 -- The state's lines at some states.
 use Prim.Native.Nat.{ℕ}
 use mathlib.Core.Path.{_≡_, refl}
-use mathlib.Core.List.{List, [], _∷_, _++_, map}
+use mathlib.Core.List.{List, [], _∷_, _++_}
 use mathlib.Core.Bool.{Bool, true, false}
 use lib.ListN.{set, replicate}
 use Rattle.line.specs.declared.Fault.the-variants as fault
@@ -12,7 +12,7 @@ use Rattle.sessions.specs.declared.Slot.{Slot}
 use Rattle.sessions.specs.Sessions.{slotCount, closedSlot, targetCount}
 use Rattle.rules.specs.declared.Hub.{Hub}
 use Rattle.text.specs.Text.{ascii, digit, decimalIn, decimal}
-use Rattle.text.specs.Appended.{Memory, appended}
+use Rattle.text.specs.Appended.{appended}
 use Rattle.answers.specs.Bytes.{hexPairs, bytesWord}
 use Rattle.answers.specs.Report.{hasOther}
 use Rattle.answers.specs.Shows.{flag, loginLine, nodeWord, nodesBelow, slotLine, nodeLine, modeWord, readingLine, endLine}

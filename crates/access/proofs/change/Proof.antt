@@ -4,20 +4,14 @@ use mathlib.Core.Path.{refl, sym, _∙_}
 use borrow.Author.Needs.{needs}
 use Rattle.access.proofs.change.Statement.{statement}
 use Rattle.access.proofs.change.Tie as tie
-use Rattle.access.proofs.change.Reads as reads
-use Rattle.access.proofs.change.Lts as lts
-use Rattle.access.proofs.same.Reads as same-reads
 
--- src/lib.rt:45:9
 same-requires : tie.Need-same-requires
 same-requires c κs = search needs
 
--- src/lib.rt:46:9
 returns : tie.Need-returns
 unfolding change
 returns c = simp (sym (c .before .same .ensures) ∙ not-true _ (c .if1 .taken)) (record { status = refl; hub = refl })
 
--- src/lib.rt:41:1
 returns-2 : tie.Need-returns-2
 unfolding change
 returns-2 c = simp (sym (c .before .before .before .same .ensures) ∙ not-false _ (c .before .before .if1 .left)) (record { status = refl; hub = refl })

@@ -4,25 +4,17 @@ use mathlib.Core.Path.{refl, sym, _∙_}
 use borrow.Author.Needs.{needs}
 use Rattle.access.proofs.enter.Statement.{statement}
 use Rattle.access.proofs.enter.Tie as tie
-use Rattle.access.proofs.enter.Reads as reads
-use Rattle.access.proofs.enter.Lts as lts
-use Rattle.access.proofs.same.Reads as same-reads
-use Rattle.logins.proofs.with_login.Reads as with-login-reads
 
--- src/lib.rt:20:9
 same-requires : tie.Need-same-requires
 same-requires c κs = search needs
 
--- src/lib.rt:21:9
 returns : tie.Need-returns
 unfolding enter
 returns c = simp (sym (c .before .same .ensures) ∙ not-true _ (c .if1 .taken)) (record { status = refl; hub = refl })
 
--- src/lib.rt:27:9
 with-login-requires : tie.Need-with-login-requires
 with-login-requires c κs = search needs
 
--- src/lib.rt:16:1
 returns-2 : tie.Need-returns-2
 unfolding enter
 returns-2 c = simp (sym (c .before .before .before .before .same .ensures) ∙ not-false _ (c .before .before .before .if1 .left), c .before .with-login .ensures) (record { status = refl; hub = refl })

@@ -4,35 +4,25 @@ use mathlib.Core.Path.{_∙_}
 use borrow.Author.Needs.{needs}
 use Rattle.access.proofs.password_at.Statement.{statement}
 use Rattle.access.proofs.password_at.Tie as tie
-use Rattle.access.proofs.password_at.Reads as reads
-use Rattle.access.proofs.password_at.Lts as lts
-use Rattle.store.proofs.copy.Reads as copy-reads
 
--- src/lib.rt:113:9
 returns : tie.Need-returns
 returns c = rw (drop-of-length-le (c .before .before .args .payload .now) (c .if1 .taken))
 
--- src/lib.rt:115:17
 slice-aggregate-copy : tie.Need-slice-aggregate-copy
 slice-aggregate-copy c = search needs
 
--- src/lib.rt:115:30
 sub-copy : tie.Need-sub-copy
 sub-copy c = search needs
 
--- src/lib.rt:115:30
 part-copy-start : tie.Need-part-copy-start
 part-copy-start c = search needs
 
--- src/lib.rt:115:30
 part-copy-end : tie.Need-part-copy-end
 part-copy-end c = search needs
 
--- src/lib.rt:115:5
 copy-requires : tie.Need-copy-requires
 copy-requires c κs = search needs
 
--- src/lib.rt:108:1
 returns-2 : tie.Need-returns-2
 returns-2 c = c .before .copy .ensures ∙ rw (rest (c .before .before .before .before .before .before .args .payload .now) (c .before .before .before .before .before .before .args .at))
 

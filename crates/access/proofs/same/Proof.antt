@@ -8,8 +8,6 @@ use mathlib.Core.Path.{_≡_, refl, sym, _∙_}
 use Prim.Native.Nat.{_≤_, _-_}
 use Rattle.access.proofs.same.Statement.{statement}
 use Rattle.access.proofs.same.Tie as tie
-use Rattle.access.proofs.same.Reads as reads
-use Rattle.access.proofs.same.Lts as lts
 
 abbrev Inv-loop : tie.InvT-loop
 Inv-loop a b i₀ i = (i ≤ passwordSize) × (same a b ≡ same (drop i a) (drop i b))
@@ -21,39 +19,31 @@ abbrev μ-loop : tie.MeasureT-loop
 lengths : (c : tie.At-loop Inv-loop μ-loop) → (length (c .before .args .t1) ≡ passwordSize) × (length (c .before .args .t2) ≡ passwordSize)
 lengths c = (search needs, search needs)
 
--- src/lib.rt:92:5
 loop-holds : tie.Need-loop-holds Inv-loop μ-loop
 loop-holds c = (search needs, refl)
 
--- src/lib.rt:93:12
 array-read-if1 : tie.Need-array-read-if1 Inv-loop μ-loop
 array-read-if1 c = search needs
 
--- src/lib.rt:93:20
 array-read-if1-2 : tie.Need-array-read-if1-2 Inv-loop μ-loop
 array-read-if1-2 c = search needs
 
--- src/lib.rt:94:13
 returns : tie.Need-returns Inv-loop μ-loop
 returns c =
     let l = lengths (c .before .before) in
     sym (c .before .before .loop .inv .1 ∙ same-not (c .before .before .before .args .t1) (c .before .before .before .args .t2) (c .before .before .loop .i) (omega (arith, l .0, c .before .loop-test .taken)) (omega (arith, l .1, c .before .loop-test .taken)) (ne-eqb _ _ (c .if1 .taken)))
 
--- src/lib.rt:96:9
 add-i : tie.Need-add-i Inv-loop μ-loop
 add-i c = search needs
 
--- src/lib.rt:92:5
 loop-less : tie.Need-loop-less Inv-loop μ-loop
 loop-less c = search needs
 
--- src/lib.rt:92:5
 loop-again : tie.Need-loop-again Inv-loop μ-loop
 loop-again c =
     let l = lengths (c .before .before) in
     (search needs, c .before .before .loop .inv .1 ∙ same-on (c .before .before .before .args .t1) (c .before .before .before .args .t2) (c .before .before .loop .i) (omega (arith, l .0, c .before .loop-test .taken)) (omega (arith, l .1, c .before .loop-test .taken)) (eq-eqb _ _ (c .if1 .left)))
 
--- src/lib.rt:88:1
 returns-2 : tie.Need-returns-2 Inv-loop μ-loop
 returns-2 c =
     let l = lengths (c .before) in

@@ -3,40 +3,28 @@ use mathlib.Core.Path.{sym, _∙_}
 use borrow.Author.Needs.{needs}
 use Rattle.host.proofs.enrol.Statement.{statement}
 use Rattle.host.proofs.enrol.Tie as tie
-use Rattle.host.proofs.enrol.Reads as reads
-use Rattle.host.proofs.enrol.Lts as lts
-use Rattle.enrolment.proofs.enrol.Reads as enrol-reads
-use Rattle.table.proofs.in_use.Reads as in-use-reads
 
--- src/lib.rt:137:9
 returns : tie.Need-returns
 returns c = simp (ne-eqb _ _ (c .if1 .taken))
 
--- src/lib.rt:140:9
 returns-2 : tie.Need-returns-2
 returns-2 c = simp (eq-eqb _ _ (c .before .if1 .left), le-ltb _ _ (c .if2 .taken))
 
--- src/lib.rt:142:8
 in-use-requires : tie.Need-in-use-requires
 in-use-requires c κs = search needs
 
--- src/lib.rt:143:9
 same-length : tie.Need-same-length
 same-length c = search needs
 
--- src/lib.rt:143:9
 returns-3 : tie.Need-returns-3
 returns-3 c = simp (eq-eqb _ _ (c .before .before .before .before .if1 .left), lt-ltb _ _ (c .before .before .before .if2 .left), sym (c .before .in-use .ensures) ∙ c .if3 .taken)
 
--- src/lib.rt:145:5
 enrol-requires : tie.Need-enrol-requires
 enrol-requires c κs = search needs
 
--- src/lib.rt:133:1
 same-length-2 : tie.Need-same-length-2
 same-length-2 c = search needs
 
--- src/lib.rt:133:1
 returns-4 : tie.Need-returns-4
 returns-4 c = simp (eq-eqb _ _ (c .before .before .before .before .before .before .before .before .if1 .left), lt-ltb _ _ (c .before .before .before .before .before .before .before .if2 .left), sym (c .before .before .before .before .before .in-use .ensures) ∙ c .before .before .before .before .if3 .left, c .before .before .enrol .ensures)
 

@@ -5,11 +5,9 @@ use borrow.Author.Needs.{needs}
 use Rattle.host.proofs.notice.Statement.{statement}
 use Rattle.host.proofs.notice.Tie as tie
 
--- src/lib.rt:232:9
 cast-t5 : tie.Need-cast-t5
 cast-t5 c = search needs
 
--- src/lib.rt:233:9
 cast-t7 : tie.Need-cast-t7
 cast-t7 c = search needs
 

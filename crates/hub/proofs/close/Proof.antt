@@ -4,24 +4,16 @@ use native.Mathlib.Omega.{arith}
 use borrow.Author.Needs.{needs}
 use Rattle.hub.proofs.close.Statement.{statement}
 use Rattle.hub.proofs.close.Tie as tie
-use Rattle.hub.proofs.close.Reads as reads
-use Rattle.hub.proofs.close.Lts as lts
-use Rattle.reader.proofs.emptied.Reads as emptied-reads
-use Rattle.hub.proofs.closed_line.Reads as closed-line-reads
 
--- src/lib.rt:154:9
 returns : tie.Need-returns
 returns c = (close-wrong _ _ _ (c .if1 .taken), tt)
 
--- src/lib.rt:160:9
 closed-line-requires : tie.Need-closed-line-requires
 closed-line-requires c κs = search needs
 
--- src/lib.rt:161:9
 emptied-requires : tie.Need-emptied-requires
 emptied-requires c κs = search needs
 
--- src/lib.rt:150:1
 returns-2 : tie.Need-returns-2
 returns-2 c = rw (c .emptied .ensures, c .before .closed-line .ensures) (close-done _ _ _ (c .before .before .if1 .left), (omega arith, tt))
 

@@ -1,18 +1,13 @@
 use borrow.Author.Needs.{needs}
 use Rattle.hub.proofs.closed_line.Statement.{statement}
 use Rattle.hub.proofs.closed_line.Tie as tie
-use Rattle.hub.proofs.closed_line.Reads as reads
-use Rattle.hub.proofs.closed_line.Lts as lts
 
--- src/lib.rt:175:9
 with-login-requires : tie.Need-with-login-requires
 with-login-requires c κs = search needs
 
--- src/lib.rt:176:9
 close-line-requires : tie.Need-close-line-requires
 close-line-requires c κs = search needs
 
--- src/lib.rt:169:1
 returns : tie.Need-returns
 returns c = simp (c .close-line .ensures, c .before .with-login .ensures)
 

@@ -8,61 +8,44 @@ use mathlib.Core.Path.{_≡_, refl}
 use borrow.Author.Needs.{needs}
 use Rattle.hub.proofs.serve.Statement.{statement}
 use Rattle.hub.proofs.serve.Tie as tie
-use Rattle.hub.proofs.serve.Reads as reads
-use Rattle.hub.proofs.serve.Lts as lts
-use Rattle.requests.proofs.refuse.Reads as refuse-reads
-use Rattle.requests.proofs.serve.Reads as serve-reads
 
--- src/lib.rt:286:29
 enum-told : tie.Need-enum-told
 enum-told c = search needs
 
--- src/lib.rt:287:26
 enum-known-outcome : tie.Need-enum-known-outcome
 enum-known-outcome c = search needs
 
--- src/lib.rt:288:81
 add-serve : tie.Need-add-serve
 add-serve c = let w = rw (c .before .before .before .outcome .given .1) at (c .before .before .before .before .before .before .before .before .pre .3) in omega (arith, w)
 
--- src/lib.rt:288:62
 sub-serve : tie.Need-sub-serve
 sub-serve c = search needs
 
--- src/lib.rt:288:62
 part-serve-start : tie.Need-part-serve-start
 part-serve-start c = search needs
 
--- src/lib.rt:288:62
 part-serve-end : tie.Need-part-serve-end
 part-serve-end c = let w = rw (c .before .before .before .outcome .given .1) at (c .before .before .before .before .before .before .before .before .pre .3) in omega (arith, w, c .before .before .before .before .before .before .before .before .pre .2)
 
--- src/lib.rt:288:13
 serve-requires : tie.Need-serve-requires
 serve-requires c κs = search needs
 
--- src/lib.rt:291:38
 enum-told-2 : tie.Need-enum-told-2
 enum-told-2 c = search needs
 
--- src/lib.rt:291:17
 refuse-requires : tie.Need-refuse-requires
 refuse-requires c κs = search needs
 
--- src/lib.rt:281:1
 returns : tie.Need-returns
 unfolding serveIf
 returns c = rw (c .enum-told .given .1) (record { hub = refl; table = refl; replied = record { len = refl; content = refl } })
 
--- src/lib.rt:281:1
 same-length : tie.Need-same-length
 same-length c = search needs
 
--- src/lib.rt:281:1
 same-length-2 : tie.Need-same-length-2
 same-length-2 c = search needs
 
--- src/lib.rt:281:1
 returns-2 : tie.Need-returns-2
 unfolding serveIf
 returns-2 c =
@@ -70,11 +53,9 @@ returns-2 c =
     let e : 4 + len - 4 ≡ len = omega arith in
     rw (c .before .before .before .before .before .before .before .before .before .outcome .given .1) (rw (eq-eqb _ _ (c .before .before .before .before .before .before .before .before .before .before .before .before .before .before .pre .0), le-leb _ _ (c .before .before .before .before .before .before .before .before .before .before .before .before .before .before .pre .1), e) at (c .before .before .before .before .serve .ensures))
 
--- src/lib.rt:281:1
 same-length-3 : tie.Need-same-length-3
 same-length-3 c = search needs
 
--- src/lib.rt:281:1
 returns-3 : tie.Need-returns-3
 unfolding serveIf serve
 returns-3 c = rw (c .before .before .before .before .enum-told2 .given .1) (record { hub = refl; table = refl; replied = replied-whole _ _ _ _ _ (c .before .before .before .before .before .before .before .before .before .pre .1) (omega arith) (c .before .before .refuse .ensures) })

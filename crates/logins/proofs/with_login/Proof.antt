@@ -5,20 +5,15 @@ use mathlib.Core.Path.{sym, _≡_}
 use borrow.Author.Needs.{needs}
 use Rattle.logins.proofs.with_login.Statement.{statement}
 use Rattle.logins.proofs.with_login.Tie as tie
-use Rattle.logins.proofs.with_login.Reads as reads
-use Rattle.logins.proofs.with_login.Lts as lts
 
--- src/lib.rt:80:9
 returns : tie.Need-returns
 returns c =
     let long : length (c .before .args .logins) ≡ 4 = search needs in
     sym (set-out (c .before .args .logins) (c .before .args .line) (c .before .args .value) (omega (arith, c .if1 .taken)))
 
--- src/lib.rt:83:5
 array-write-out : tie.Need-array-write-out
 array-write-out c = search needs
 
--- src/lib.rt:75:1
 returns-2 : tie.Need-returns-2
 returns-2 c = search needs
 

@@ -3,47 +3,34 @@ use Rattle.frame.specs.declared.WrittenAt.the-variants.{UpTo, NoFit, LongData}
 use borrow.Author.Needs.{needs}
 use Rattle.replying.proofs.reply_at.Statement.{statement}
 use Rattle.replying.proofs.reply_at.Tie as tie
-use Rattle.replying.proofs.reply_at.Reads as reads
-use Rattle.replying.proofs.reply_at.Lts as lts
-use Rattle.writer.proofs.write_at.Reads as write-at-reads
 
--- src/lib.rt:23:11
 write-at-requires : tie.Need-write-at-requires
 write-at-requires c κs = search needs
 
--- src/lib.rt:24:25
 enum-known-n : tie.Need-enum-known-n
 enum-known-n c = search needs
 
--- src/lib.rt:25:29
 enum-told : tie.Need-enum-told
 enum-told c = search needs
 
--- src/lib.rt:26:32
 enum-told-2 : tie.Need-enum-told-2
 enum-told-2 c = search needs
 
--- src/lib.rt:20:1
 same-length : tie.Need-same-length
 same-length c = search needs
 
--- src/lib.rt:20:1
 returns : tie.Need-returns
 returns c = placed-reply _ _ _ _ _ (UpTo _) (rw (c .before .n .given .1) at (c .before .before .before .before .before .write-at .ensures))
 
--- src/lib.rt:20:1
 same-length-2 : tie.Need-same-length-2
 same-length-2 c = search needs
 
--- src/lib.rt:20:1
 returns-2 : tie.Need-returns-2
 returns-2 c = placed-reply _ _ _ _ _ NoFit (rw (c .enum-told .given .1) at (c .before .before .before .before .write-at .ensures))
 
--- src/lib.rt:20:1
 same-length-3 : tie.Need-same-length-3
 same-length-3 c = search needs
 
--- src/lib.rt:20:1
 returns-3 : tie.Need-returns-3
 returns-3 c = placed-reply _ _ _ _ _ LongData (rw (c .enum-told2 .given .1) at (c .before .before .before .before .write-at .ensures))
 

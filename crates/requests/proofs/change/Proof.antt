@@ -9,37 +9,25 @@ use mathlib.Core.Path.{_∙_}
 use borrow.Author.Needs.{needs}
 use Rattle.requests.proofs.change.Statement.{statement}
 use Rattle.requests.proofs.change.Tie as tie
-use Rattle.requests.proofs.change.Reads as reads
-use Rattle.requests.proofs.change.Lts as lts
-use Rattle.access.proofs.change.Reads as change-reads
-use Rattle.access.proofs.password_at.Reads as password-at-reads
-use Rattle.replying.proofs.reply.Reads as reply-reads
 
--- src/lib.rt:62:9
 password-at-requires : tie.Need-password-at-requires
 password-at-requires c κs = search needs
 
--- src/lib.rt:63:9
 password-at-requires-2 : tie.Need-password-at-requires-2
 password-at-requires-2 c κs = search needs
 
--- src/lib.rt:64:9
 change-requires : tie.Need-change-requires
 change-requires c κs = search needs
 
--- src/lib.rt:67:33
 slice-aggregate-reply : tie.Need-slice-aggregate-reply
 slice-aggregate-reply c = search needs
 
--- src/lib.rt:67:9
 reply-requires : tie.Need-reply-requires
 reply-requires c κs = search needs
 
--- src/lib.rt:58:1
 same-length : tie.Need-same-length
 same-length c = search needs
 
--- src/lib.rt:58:1
 returns : tie.Need-returns
 returns c =
     let d = c .before .before .before .before .before .before .before .before .before .before .before .args .payload .now in

@@ -4,15 +4,10 @@ use mathlib.Core.Path.{_≡_, _∙_, sym}
 use borrow.Author.Needs.{needs}
 use Rattle.requests.proofs.close_all.Statement.{statement}
 use Rattle.requests.proofs.close_all.Tie as tie
-use Rattle.requests.proofs.close_all.Reads as reads
-use Rattle.requests.proofs.close_all.Lts as lts
-use Rattle.slots.proofs.none.Reads as none-reads
 
--- src/lib.rt:215:5
 none-requires : tie.Need-none-requires
 none-requires c κs = search needs
 
--- src/lib.rt:212:1
 returns : tie.Need-returns
 returns c =
     let long : length (c .before .args .slots) ≡ 8 = search needs in

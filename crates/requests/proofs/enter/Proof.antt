@@ -5,33 +5,22 @@ use mathlib.Core.Path.{_∙_}
 use borrow.Author.Needs.{needs}
 use Rattle.requests.proofs.enter.Statement.{statement}
 use Rattle.requests.proofs.enter.Tie as tie
-use Rattle.requests.proofs.enter.Reads as reads
-use Rattle.requests.proofs.enter.Lts as lts
-use Rattle.access.proofs.enter.Reads as enter-reads
-use Rattle.access.proofs.password_at.Reads as password-at-reads
-use Rattle.replying.proofs.reply.Reads as reply-reads
 
--- src/lib.rt:50:9
 password-at-requires : tie.Need-password-at-requires
 password-at-requires c κs = search needs
 
--- src/lib.rt:51:9
 enter-requires : tie.Need-enter-requires
 enter-requires c κs = search needs
 
--- src/lib.rt:54:33
 slice-aggregate-reply : tie.Need-slice-aggregate-reply
 slice-aggregate-reply c = search needs
 
--- src/lib.rt:54:9
 reply-requires : tie.Need-reply-requires
 reply-requires c κs = search needs
 
--- src/lib.rt:46:1
 same-length : tie.Need-same-length
 same-length c = search needs
 
--- src/lib.rt:46:1
 returns : tie.Need-returns
 returns c =
     let d = c .before .before .before .before .before .before .before .before .before .before .args .payload .now in

@@ -5,57 +5,42 @@ use Rattle.nodes.specs.TableLaws.{informed-known, informed-bytes, information-l
 use Rattle.nodes.specs.Table.{inUse, information}
 use Rattle.frame.specs.WireLaws.{wire-short}
 use borrow.Author.Tests.{not-true, not-false}
-use lib.ListN.{length}
 use native.Mathlib.Omega.{arith}
 use mathlib.Core.List.{[], _∷_}
 use mathlib.Core.Path.{_≡_, refl, sym, ap, _∙_}
 use borrow.Author.Needs.{needs}
 use Rattle.requests.proofs.get_node.Statement.{statement}
 use Rattle.requests.proofs.get_node.Tie as tie
-use Rattle.requests.proofs.get_node.Reads as reads
-use Rattle.requests.proofs.get_node.Lts as lts
-use Rattle.informing.proofs.information.Reads as information-reads
-use Rattle.replying.proofs.confirm.Reads as confirm-reads
-use Rattle.replying.proofs.reply_at.Reads as reply-at-reads
 
 -- whether the node is known is whether it is in use
 known : (c : tie.After-information) → c .information .result .known ≡ inUse (c .before .before .before .args .table .now) (c .before .before .before .args .node)
 known c = ap (λ (x : Informed). x .known) (c .information .ensures) ∙ informed-known _ _ (c .before .before .before .pre .0)
 
--- src/lib.rt:84:9
 information-requires : tie.Need-information-requires
 information-requires c κs = search needs
 
--- src/lib.rt:86:13
 confirm-requires : tie.Need-confirm-requires
 confirm-requires c κs = search needs
 
--- src/lib.rt:87:9
 same-length : tie.Need-same-length
 same-length c = search needs
 
--- src/lib.rt:87:9
 returns : tie.Need-returns
 unfolding getNode
 returns c = rw (sym (known (c .before .before .before .before .before .before)) ∙ not-true _ (c .before .before .before .before .if1 .taken)) (record { hub = refl; replied = replied-whole _ _ _ _ _ (c .before .before .before .before .before .before .before .before .before .pre .1) (omega arith) (c .before .before .confirm .ensures) })
 
--- src/lib.rt:89:9
 confirm-requires-2 : tie.Need-confirm-requires-2
 confirm-requires-2 c κs = search needs
 
--- src/lib.rt:91:43
 slice-aggregate-reply-at : tie.Need-slice-aggregate-reply-at
 slice-aggregate-reply-at c = search needs
 
--- src/lib.rt:91:9
 reply-at-requires : tie.Need-reply-at-requires
 reply-at-requires c κs = search needs
 
--- src/lib.rt:80:1
 same-length-2 : tie.Need-same-length-2
 same-length-2 c = search needs
 
--- src/lib.rt:80:1
 returns-2 : tie.Need-returns-2
 unfolding getNode
 returns-2 c =

@@ -5,85 +5,61 @@ use mathlib.Core.Path.{refl, sym, _∙_}
 use borrow.Author.Needs.{needs}
 use Rattle.requests.proofs.judged.Statement.{statement}
 use Rattle.requests.proofs.judged.Tie as tie
-use Rattle.requests.proofs.judged.Reads as reads
-use Rattle.requests.proofs.judged.Lts as lts
-use Rattle.lookup.proofs.judge.Reads as judge-reads
-use Rattle.replying.proofs.error.Reads as error-reads
-use Rattle.requests.proofs.may_ask.Reads as may-ask-reads
-use Rattle.requests.proofs.request.Reads as request-reads
 
--- src/lib.rt:55:11
 judge-requires : tie.Need-judge-requires
 judge-requires c κs = search needs
 
--- src/lib.rt:57:26
 enum-told : tie.Need-enum-told
 enum-told c = search needs
 
--- src/lib.rt:57:17
 error-requires : tie.Need-error-requires
 error-requires c κs = search needs
 
--- src/lib.rt:61:26
 enum-told-2 : tie.Need-enum-told-2
 enum-told-2 c = search needs
 
--- src/lib.rt:61:17
 error-requires-2 : tie.Need-error-requires-2
 error-requires-2 c κs = search needs
 
--- src/lib.rt:65:17
 enum-told-3 : tie.Need-enum-told-3
 enum-told-3 c = search needs
 
--- src/lib.rt:66:16
 may-ask-requires : tie.Need-may-ask-requires
 may-ask-requires c κs = search needs
 
--- src/lib.rt:67:17
 request-requires : tie.Need-request-requires
 request-requires c κs = (c .before .before .before .before .before .before .before .before .before .before .before .pre .0, c .before .before .before .before .before .before .before .before .before .before .before .pre .1, sym (c .before .before .before .before .before .before .before .judge .ensures) ∙ c .before .before .before .before .before .enum-told3 .given .1)
 
--- src/lib.rt:67:17
 same-length : tie.Need-same-length
 same-length c = search needs
 
--- src/lib.rt:67:17
 same-length-2 : tie.Need-same-length-2
 same-length-2 c = search needs
 
--- src/lib.rt:67:17
 returns : tie.Need-returns
 unfolding serve
 returns c = rw (sym (c .before .before .before .before .before .before .before .before .before .before .before .before .judge .ensures) ∙ c .before .before .before .before .before .before .before .before .before .before .enum-told3 .given .1, sym (c .before .before .before .before .before .before .before .before .may-ask .ensures) ∙ c .before .before .before .before .before .before .before .if1 .taken) (c .before .before .before .before .request .ensures)
 
--- src/lib.rt:69:17
 error-requires-3 : tie.Need-error-requires-3
 error-requires-3 c κs = search needs
 
--- src/lib.rt:51:1
 same-length-3 : tie.Need-same-length-3
 same-length-3 c = search needs
 
--- src/lib.rt:51:1
 returns-2 : tie.Need-returns-2
 unfolding serve
 returns-2 c = rw (sym (c .before .before .before .before .before .before .judge .ensures) ∙ c .before .before .before .before .enum-told .given .1) (record { hub = refl; table = refl; replied = replied-whole _ _ _ _ _ (c .before .before .before .before .before .before .before .before .before .before .pre .1) (omega arith) (c .before .before .error .ensures) })
 
--- src/lib.rt:51:1
 same-length-4 : tie.Need-same-length-4
 same-length-4 c = search needs
 
--- src/lib.rt:51:1
 returns-3 : tie.Need-returns-3
 unfolding serve
 returns-3 c = rw (sym (c .before .before .before .before .before .before .judge .ensures) ∙ c .before .before .before .before .enum-told2 .given .1) (record { hub = refl; table = refl; replied = replied-whole _ _ _ _ _ (c .before .before .before .before .before .before .before .before .before .before .pre .1) (omega arith) (c .before .before .error2 .ensures) })
 
--- src/lib.rt:51:1
 same-length-5 : tie.Need-same-length-5
 same-length-5 c = search needs
 
--- src/lib.rt:51:1
 returns-4 : tie.Need-returns-4
 unfolding serve
 returns-4 c = rw (sym (c .before .before .before .before .before .before .before .before .before .judge .ensures) ∙ c .before .before .before .before .before .before .before .enum-told3 .given .1, sym (c .before .before .before .before .before .may-ask .ensures) ∙ c .before .before .before .before .if1 .left) (record { hub = refl; table = refl; replied = replied-whole _ _ _ _ _ (c .before .before .before .before .before .before .before .before .before .before .before .before .before .pre .1) (omega arith) (c .before .before .error3 .ensures) })

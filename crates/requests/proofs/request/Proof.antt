@@ -8,179 +8,129 @@ use mathlib.Core.Path.{refl, sym, _∙_}
 use borrow.Author.Needs.{needs}
 use Rattle.requests.proofs.request.Statement.{statement}
 use Rattle.requests.proofs.request.Tie as tie
-use Rattle.requests.proofs.request.Reads as reads
-use Rattle.requests.proofs.request.Lts as lts
-use Rattle.requests.proofs.change.Reads as change-reads
-use Rattle.requests.proofs.enter.Reads as enter-reads
-use Rattle.replying.proofs.error.Reads as error-reads
-use Rattle.requests.proofs.get_node.Reads as get-node-reads
-use Rattle.requests.proofs.mode_send.Reads as mode-send-reads
-use Rattle.requests.proofs.remove_nodes.Reads as remove-nodes-reads
-use Rattle.requests.proofs.set_name.Reads as set-name-reads
-use Rattle.requests.proofs.set_order_and_placement.Reads as set-order-and-placement-reads
-use Rattle.requests.proofs.set_variation.Reads as set-variation-reads
-use Rattle.requests.proofs.virgin_state.Reads as virgin-state-reads
 
--- src/lib.rt:90:19
 enter-requires : tie.Need-enter-requires
 enter-requires c κs = (c .before .before .before .before .before .pre .1, enter-size _ (rw (c .before .match .keys1) at (c .before .before .before .before .before .pre .2)))
 
--- src/lib.rt:91:19
 change-requires : tie.Need-change-requires
 change-requires c κs = (c .before .before .before .before .before .pre .1, change-size _ (rw (c .before .match .keys2) at (c .before .before .before .before .before .pre .2)))
 
--- src/lib.rt:92:46
 shared-slice-read-get-node : tie.Need-shared-slice-read-get-node
 shared-slice-read-get-node c = let n = get-size _ (rw (c .before .before .before .match .keys3) at (c .before .before .before .before .before .before .before .pre .2)) in omega arith
 
--- src/lib.rt:92:19
 get-node-requires : tie.Need-get-node-requires
 get-node-requires c κs = search needs
 
--- src/lib.rt:93:19
 set-variation-requires : tie.Need-set-variation-requires
 set-variation-requires c κs = (c .before .before .before .before .before .before .pre .1, variation-size _ (rw (c .before .before .match .keys4) at (c .before .before .before .before .before .before .pre .2)))
 
--- src/lib.rt:94:19
 set-name-requires : tie.Need-set-name-requires
 set-name-requires c κs = let n = name-size _ (rw (c .before .before .match .keys5) at (c .before .before .before .before .before .before .pre .2)) in (c .before .before .before .before .before .before .pre .1, omega arith)
 
--- src/lib.rt:95:19
 set-order-and-placement-requires : tie.Need-set-order-and-placement-requires
 set-order-and-placement-requires c κs = let n = order-size _ (rw (c .before .before .match .keys6) at (c .before .before .before .before .before .before .pre .2)) in (c .before .before .before .before .before .before .pre .1, omega arith)
 
--- src/lib.rt:96:19
 remove-nodes-requires : tie.Need-remove-nodes-requires
 remove-nodes-requires c κs = search needs
 
--- src/lib.rt:97:19
 virgin-state-requires : tie.Need-virgin-state-requires
 virgin-state-requires c κs = search needs
 
--- src/lib.rt:98:19
 mode-send-requires : tie.Need-mode-send-requires
 mode-send-requires c κs = let n = mode-send-size _ (rw (c .before .before .match .keys9) at (c .before .before .before .before .before .before .pre .2)) in (c .before .before .before .before .before .before .pre .1, omega arith)
 
--- src/lib.rt:100:17
 error-requires : tie.Need-error-requires
 error-requires c κs = search needs
 
--- src/lib.rt:85:1
 same-length : tie.Need-same-length
 same-length c = search needs
 
--- src/lib.rt:85:1
 returns : tie.Need-returns
 unfolding request
 returns c = rw (c .before .before .before .before .match .keys1) (record { hub = c .before .before .enter .ensures .hub; table = refl; replied = c .before .before .enter .ensures .replied })
 
--- src/lib.rt:85:1
 same-length-2 : tie.Need-same-length-2
 same-length-2 c = search needs
 
--- src/lib.rt:85:1
 returns-2 : tie.Need-returns-2
 unfolding request
 returns-2 c = rw (c .before .before .before .before .match .keys2) (record { hub = c .before .before .change .ensures .hub; table = refl; replied = c .before .before .change .ensures .replied })
 
--- src/lib.rt:85:1
 same-length-3 : tie.Need-same-length-3
 same-length-3 c = search needs
 
--- src/lib.rt:85:1
 same-length-4 : tie.Need-same-length-4
 same-length-4 c = search needs
 
--- src/lib.rt:85:1
 returns-3 : tie.Need-returns-3
 unfolding request
 returns-3 c =
     let k = getNode-kept (c .before .before .before .before .before .before .before .before .before .before .args .hub) (c .before .before .before .before .before .before .before .before .before .before .args .table .now) (getD (c .before .before .before .before .before .before .before .before .before .before .args .payload .now) 0 0) in
     rw (c .before .before .before .before .before .before .match .keys3) (record { hub = c .before .before .get-node .ensures .hub ∙ sym (k .0); table = sym (k .1); replied = c .before .before .get-node .ensures .replied })
 
--- src/lib.rt:85:1
 same-length-5 : tie.Need-same-length-5
 same-length-5 c = search needs
 
--- src/lib.rt:85:1
 same-length-6 : tie.Need-same-length-6
 same-length-6 c = search needs
 
--- src/lib.rt:85:1
 returns-4 : tie.Need-returns-4
 unfolding request
 returns-4 c = rw (c .before .before .before .before .before .before .before .match .keys4) (c .before .before .before .before .set-variation .ensures)
 
--- src/lib.rt:85:1
 same-length-7 : tie.Need-same-length-7
 same-length-7 c = search needs
 
--- src/lib.rt:85:1
 same-length-8 : tie.Need-same-length-8
 same-length-8 c = search needs
 
--- src/lib.rt:85:1
 returns-5 : tie.Need-returns-5
 unfolding request
 returns-5 c = rw (c .before .before .before .before .before .before .before .match .keys5) (c .before .before .before .before .set-name .ensures)
 
--- src/lib.rt:85:1
 same-length-9 : tie.Need-same-length-9
 same-length-9 c = search needs
 
--- src/lib.rt:85:1
 same-length-10 : tie.Need-same-length-10
 same-length-10 c = search needs
 
--- src/lib.rt:85:1
 returns-6 : tie.Need-returns-6
 unfolding request
 returns-6 c = rw (c .before .before .before .before .before .before .before .match .keys6) (c .before .before .before .before .set-order-and-placement .ensures)
 
--- src/lib.rt:85:1
 same-length-11 : tie.Need-same-length-11
 same-length-11 c = search needs
 
--- src/lib.rt:85:1
 same-length-12 : tie.Need-same-length-12
 same-length-12 c = search needs
 
--- src/lib.rt:85:1
 returns-7 : tie.Need-returns-7
 unfolding request
 returns-7 c = rw (c .before .before .before .before .before .before .before .match .keys7) (c .before .before .before .before .remove-nodes .ensures)
 
--- src/lib.rt:85:1
 same-length-13 : tie.Need-same-length-13
 same-length-13 c = search needs
 
--- src/lib.rt:85:1
 same-length-14 : tie.Need-same-length-14
 same-length-14 c = search needs
 
--- src/lib.rt:85:1
 returns-8 : tie.Need-returns-8
 unfolding request
 returns-8 c = rw (c .before .before .before .before .before .before .before .match .keys8) (c .before .before .before .before .virgin-state .ensures)
 
--- src/lib.rt:85:1
 same-length-15 : tie.Need-same-length-15
 same-length-15 c = search needs
 
--- src/lib.rt:85:1
 same-length-16 : tie.Need-same-length-16
 same-length-16 c = search needs
 
--- src/lib.rt:85:1
 returns-9 : tie.Need-returns-9
 unfolding request modeSend
 returns-9 c = rw (c .before .before .before .before .before .match .keys9) (record { hub = c .before .before .mode-send .ensures .hub; table = refl; replied = c .before .before .mode-send .ensures .replied })
 
--- src/lib.rt:85:1
 same-length-17 : tie.Need-same-length-17
 same-length-17 c = search needs
 
--- src/lib.rt:85:1
 returns-10 : tie.Need-returns-10
 unfolding request
 returns-10 c =

@@ -3,31 +3,22 @@ use mathlib.Core.Path.{refl}
 use borrow.Author.Needs.{needs}
 use Rattle.requests.proofs.serve.Statement.{statement}
 use Rattle.requests.proofs.serve.Tie as tie
-use Rattle.requests.proofs.serve.Reads as reads
-use Rattle.requests.proofs.serve.Lts as lts
-use Rattle.requests.proofs.judged.Reads as judged-reads
 
--- src/lib.rt:32:9
 returns : tie.Need-returns
 returns c = simp (ne-eqb _ _ (c .if1 .taken)) (record { hub = refl; table = refl; replied = record { len = refl; content = refl } })
 
--- src/lib.rt:35:9
 returns-2 : tie.Need-returns-2
 returns-2 c = simp (eq-eqb _ _ (c .before .if1 .left), lt-leb _ _ (c .if2 .taken)) (record { hub = refl; table = refl; replied = record { len = refl; content = refl } })
 
--- src/lib.rt:37:5
 judged-requires : tie.Need-judged-requires
 judged-requires c κs = search needs
 
--- src/lib.rt:28:1
 same-length : tie.Need-same-length
 same-length c = search needs
 
--- src/lib.rt:28:1
 same-length-2 : tie.Need-same-length-2
 same-length-2 c = search needs
 
--- src/lib.rt:28:1
 returns-3 : tie.Need-returns-3
 returns-3 c = simp (eq-eqb _ _ (c .before .before .before .before .before .before .before .before .if1 .left), le-leb _ _ (c .before .before .before .before .before .before .before .if2 .left)) (c .before .before .before .before .judged .ensures)
 

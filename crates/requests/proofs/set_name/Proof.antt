@@ -5,44 +5,31 @@ use mathlib.Core.Path.{refl}
 use borrow.Author.Needs.{needs}
 use Rattle.requests.proofs.set_name.Statement.{statement}
 use Rattle.requests.proofs.set_name.Tie as tie
-use Rattle.requests.proofs.set_name.Reads as reads
-use Rattle.requests.proofs.set_name.Lts as lts
-use Rattle.fields.proofs.set_name.Reads as set-name-reads
-use Rattle.replying.proofs.confirm.Reads as confirm-reads
 
--- src/lib.rt:109:16
 shared-slice-read-node : tie.Need-shared-slice-read-node
 shared-slice-read-node c = search needs
 
--- src/lib.rt:110:47
 sub-set-name : tie.Need-sub-set-name
 sub-set-name c = search needs
 
--- src/lib.rt:110:47
 part-set-name-start : tie.Need-part-set-name-start
 part-set-name-start c = search needs
 
--- src/lib.rt:110:47
 part-set-name-end : tie.Need-part-set-name-end
 part-set-name-end c = search needs
 
--- src/lib.rt:110:9
 set-name-requires : tie.Need-set-name-requires
 set-name-requires c κs = search needs
 
--- src/lib.rt:111:9
 confirm-requires : tie.Need-confirm-requires
 confirm-requires c κs = search needs
 
--- src/lib.rt:105:1
 same-length : tie.Need-same-length
 same-length c = search needs
 
--- src/lib.rt:105:1
 same-length-2 : tie.Need-same-length-2
 same-length-2 c = search needs
 
--- src/lib.rt:105:1
 returns : tie.Need-returns
 returns c =
     let x = rw (rest (c .before .before .before .before .before .before .before .before .before .before .before .before .before .args .payload .now) 1) at (c .before .before .before .before .before .before .set-name .ensures) in

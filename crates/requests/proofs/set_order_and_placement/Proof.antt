@@ -5,44 +5,31 @@ use mathlib.Core.Path.{refl}
 use borrow.Author.Needs.{needs}
 use Rattle.requests.proofs.set_order_and_placement.Statement.{statement}
 use Rattle.requests.proofs.set_order_and_placement.Tie as tie
-use Rattle.requests.proofs.set_order_and_placement.Reads as reads
-use Rattle.requests.proofs.set_order_and_placement.Lts as lts
-use Rattle.fields.proofs.set_order_and_placement.Reads as set-order-and-placement-reads
-use Rattle.replying.proofs.confirm.Reads as confirm-reads
 
--- src/lib.rt:119:16
 shared-slice-read-node : tie.Need-shared-slice-read-node
 shared-slice-read-node c = search needs
 
--- src/lib.rt:120:62
 sub-set-order-and-placement : tie.Need-sub-set-order-and-placement
 sub-set-order-and-placement c = search needs
 
--- src/lib.rt:120:62
 part-set-order-and-placement-start : tie.Need-part-set-order-and-placement-start
 part-set-order-and-placement-start c = search needs
 
--- src/lib.rt:120:62
 part-set-order-and-placement-end : tie.Need-part-set-order-and-placement-end
 part-set-order-and-placement-end c = search needs
 
--- src/lib.rt:120:9
 set-order-and-placement-requires : tie.Need-set-order-and-placement-requires
 set-order-and-placement-requires c κs = search needs
 
--- src/lib.rt:121:9
 confirm-requires : tie.Need-confirm-requires
 confirm-requires c κs = search needs
 
--- src/lib.rt:115:1
 same-length : tie.Need-same-length
 same-length c = search needs
 
--- src/lib.rt:115:1
 same-length-2 : tie.Need-same-length-2
 same-length-2 c = search needs
 
--- src/lib.rt:115:1
 returns : tie.Need-returns
 returns c =
     let x = rw (rest (c .before .before .before .before .before .before .before .before .before .before .before .before .before .args .payload .now) 1) at (c .before .before .before .before .before .before .set-order-and-placement .ensures) in
