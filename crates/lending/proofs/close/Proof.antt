@@ -17,7 +17,7 @@ use ghost.Atoms.{Atoms, sem}
 use contract.Monad.{Fun, fact}
 use contract.Running.{givenOf, tables, tablesOf}
 use types.Kit.{Given, ‵, raw, _⊛_, ⋆, some, later, _$_, _∵_, !, qed, by, move, keep, drop, use1, use2, split, join, pick, fsplit, fjoin, suffices, frame, await, done}
-use types.Run.{look, init, forget, stop, from, load, addr, of-opd, and-then, no-more, assigns, land, enter, alloc1, alloc0, params1, pass1, pass0, free1, free0}
+use types.Run.{look, init, stop, from, load, addr, of-opd, and-then, no-more, assigns, land, enter, alloc1, alloc0, params1, pass1, pass0, free0}
 use sound.WpLaws.{FmC, fmOf, WpFn-mono}
 use denote.RattleType.{owns}
 use denote.Laws.{Is, shows}
@@ -58,6 +58,7 @@ use Rattle.lending.proofs.close.Key.{name as #lending·close}
 use Rattle.lending.proofs.close as close
 use Rattle.lending.proofs.close.Statement as stated
 use Rattle.lending.proofs.close.Code as code
+use Rattle.service.proofs.Free.{free-full}
 use Rattle.lending.proofs.Whole.{Whole}
 use Rattle.lending.proofs.Lend.{Hb, lends, comes-home, gives-back}
 
@@ -132,8 +133,7 @@ module _ {M : Type 1} (𝓤 : URA M) (H : Heap 𝓤) (A : Atoms 𝓤) (W : Given
         -- [_4; true; _7; …; _6; …; _5; …; …; _3; …; _2; …; _1; …; room for _0; …]
         move ! (0 ∷ 2 ∷ 6 ∷ 15 ∷ []) $ gives-back To R An closedAnswer ! fm known-with refl refl refl t u is-t (ws .1 .0) is-h′ (λ a w e₂.
         -- [the result; _4; _7; _5; _0; true; …; _6; …; …; …; _3; …; _2; …; _1; …; …]
-        forget ! 1 refl $ forget ! 2 refl $ forget ! 3 refl $ forget ! 4 refl $ forget ! 7 refl $ forget ! 11 refl $ forget ! 13 refl $ forget ! 15 refl $
-        move ! (4 ∷ 17 ∷ 15 ∷ 16 ∷ 13 ∷ 14 ∷ 11 ∷ 12 ∷ 1 ∷ 10 ∷ 3 ∷ 9 ∷ 7 ∷ 8 ∷ 2 ∷ 6 ∷ []) $ free1 ! $ free1 ! $ free1 ! $ free1 ! $ free1 ! $ free1 ! $ free1 ! $ free1 ! $ free0 ! $
+        move ! (4 ∷ 17 ∷ 15 ∷ 16 ∷ 13 ∷ 14 ∷ 11 ∷ 12 ∷ 1 ∷ 10 ∷ 3 ∷ 9 ∷ 7 ∷ 8 ∷ 2 ∷ 6 ∷ []) $ free-full ! $ free-full ! $ free-full ! $ free-full ! $ free-full ! $ free-full ! $ free-full ! $ free-full ! $ free0 ! $
         keep ! (0 ∷ []) $ by ! (exits a w (final g h n t (ws .1 .0) a e₁ e₂))))))))))))))))))
 
 close-meets : {M : Type 1} (𝓤 : URA M) (H : Heap 𝓤) (A : Atoms 𝓤) (W : Given 𝓤 H A) (mem′ : Memory → SProp 𝓤) (run : Routine → Fun 𝓤) (𝓣 : Tables 𝓤 H)

@@ -19,7 +19,7 @@ use ghost.Atoms.{Atoms, sem}
 use contract.Monad.{Fun, fact}
 use contract.Running.{givenOf, tables, tablesOf}
 use types.Kit.{Given, Item, ‵, raw, _⊛_, ⋆, some, later, _$_, _∵_, !, qed, by, move, drop, use1, use2, use3, split, join, pick, fsplit, fjoin, feqL, suffices, frame, await, done}
-use types.Run.{look, init, forget, stop, hop, fld, from, load, addr, of-opd, and-then, no-more, assigns, land, enter, alloc1, alloc0, params1, pass1, pass0, free1, free0}
+use types.Run.{look, init, stop, hop, fld, from, load, addr, of-opd, and-then, no-more, assigns, land, enter, alloc1, alloc0, params1, pass1, pass0, free0}
 use types.Part.{agg, whole, sub, look-in}
 use sound.WpLaws.{FmC, fmOf, WpFn-mono}
 use denote.RattleType.{owns}
@@ -64,6 +64,7 @@ use Rattle.lending.proofs.feed.Key.{name as #lending·feed}
 use Rattle.lending.proofs.feed as feed
 use Rattle.lending.proofs.feed.Statement as stated
 use Rattle.lending.proofs.feed.Code as code
+use Rattle.service.proofs.Free.{free-full}
 use Rattle.lending.proofs.Whole.{Whole}
 use Rattle.lending.proofs.Lend.{Hb, lends, comes-home, gives-back}
 
@@ -198,9 +199,8 @@ module _ {M : Type 1} (𝓤 : URA M) (H : Heap 𝓤) (A : Atoms 𝓤) (W : Given
         -- [_7; the tokens; the last lists; bytes; _14; …; _13; …; _12; …; _11; …; _10; …; _9; …; _8; …; …; _6; …; _5; …; _4; …; _3; …; _2; …; _1; …; room for _0; …]
         move ! (0 ∷ 5 ∷ 17 ∷ 32 ∷ []) $ gives-back To R An fedAnswer ! fm known-with refl refl refl r u is-told (ws .1 .1 .0) is-h′ (λ a w e₂.
         -- [the result; _7; _14; _8; _0; the tokens; the last lists; bytes; …; _13; …; _12; …; _11; …; _10; …; _9; …; …; …; _6; …; _5; …; _4; …; _3; …; _2; …; _1; …; …]
-        forget ! 1 refl $ forget ! 2 refl $ forget ! 3 refl $ forget ! 4 refl $ forget ! 10 refl $ forget ! 12 refl $ forget ! 14 refl $ forget ! 16 refl $ forget ! 18 refl $ forget ! 22 refl $ forget ! 24 refl $ forget ! 26 refl $ forget ! 28 refl $ forget ! 30 refl $ forget ! 32 refl $
         move ! (4 ∷ 34 ∷ 32 ∷ 33 ∷ 30 ∷ 31 ∷ 28 ∷ 29 ∷ 26 ∷ 27 ∷ 24 ∷ 25 ∷ 22 ∷ 23 ∷ 1 ∷ 21 ∷ 3 ∷ 20 ∷ 18 ∷ 19 ∷ 16 ∷ 17 ∷ 14 ∷ 15 ∷ 12 ∷ 13 ∷ 10 ∷ 11 ∷ 2 ∷ 9 ∷ []) $
-        free1 ! $ free1 ! $ free1 ! $ free1 ! $ free1 ! $ free1 ! $ free1 ! $ free1 ! $ free1 ! $ free1 ! $ free1 ! $ free1 ! $ free1 ! $ free1 ! $ free1 ! $ free0 ! $
+        free-full ! $ free-full ! $ free-full ! $ free-full ! $ free-full ! $ free-full ! $ free-full ! $ free-full ! $ free-full ! $ free-full ! $ free-full ! $ free-full ! $ free-full ! $ free-full ! $ free-full ! $ free0 ! $
         by ! (exits a w (ws .1 .0) (ws .1 .1 .1 .1 .1 .0) lt lr (final g (now tb) h n (now bs) (now rm) r (ws .1 .0) (ws .1 .1 .0) (ws .1 .1 .1 .1 .1 .0) a e₁ e₂)))))))))))))))))))))))))))
 
 feed-meets : {M : Type 1} (𝓤 : URA M) (H : Heap 𝓤) (A : Atoms 𝓤) (W : Given 𝓤 H A) (mem′ : Memory → SProp 𝓤) (run : Routine → Fun 𝓤) (𝓣 : Tables 𝓤 H)

@@ -16,7 +16,7 @@ use ghost.Atoms.{Atoms, sem}
 use contract.Monad.{Fun, fact}
 use contract.Running.{givenOf, tables, tablesOf}
 use types.Kit.{Given, ‵, raw, _⊛_, ⋆, some, later, _$_, _∵_, !, qed, by, move, drop, use0, use1, split, join, pick, fsplit, fsplit3, fjoin, fjoin3, feqI, suffices, frame, await, done}
-use types.Run.{look, init, forget, stop, from, load, and-then, no-more, land, enter, alloc1, alloc0, params1, pass1, pass0, free1, free0}
+use types.Run.{look, init, stop, from, load, and-then, no-more, land, enter, alloc1, alloc0, params1, pass1, pass0, free0}
 use types.SemTy.{Body}
 use sound.WpLaws.{FmC, fmOf, WpFn-mono}
 use denote.RattleType.{owns}
@@ -66,6 +66,7 @@ use Rattle.service.proofs.close.Key.{name as #service·close}
 use Rattle.service.proofs.close as close
 use Rattle.service.proofs.close.Statement as stated
 use Rattle.service.proofs.close.Code as code
+use Rattle.service.proofs.Free.{free-full}
 
 abbrev Hb : Plain
 Hb = record { type = hub-type.the-type; laws = hub-laws.the-laws; pure = hub-laws.the-plain }
@@ -142,8 +143,7 @@ module _ {M : Type 1} (𝓤 : URA M) (H : Heap 𝓤) (A : Atoms 𝓤) (W : Given
         land ! (from ! (stop !)) (init ! 8 refl (typed An 𝓤 H A W a u is-a)) $
         move ! (0 ∷ 1 ∷ 2 ∷ 3 ∷ 4 ∷ 8 ∷ 5 ∷ 15 ∷ []) $ puts-back R An To record-of closedTold ! fm known-record known-told refl refl refl a u is-a (λ h′ v t w e₂ e₃.
         -- [the result; obs; the borrow; its token; _5; _4; _2; _0; true; …; …; _3; …; …; _1; …; …]
-        forget ! 4 refl $ forget ! 5 refl $ forget ! 6 refl $ forget ! 7 refl $ forget ! 11 refl $ forget ! 14 refl $
-        move ! (7 ∷ 16 ∷ 14 ∷ 15 ∷ 6 ∷ 13 ∷ 11 ∷ 12 ∷ 5 ∷ 10 ∷ 4 ∷ 9 ∷ []) $ free1 ! $ free1 ! $ free1 ! $ free1 ! $ free1 ! $ free1 ! $ free0 ! $
+        move ! (7 ∷ 16 ∷ 14 ∷ 15 ∷ 6 ∷ 13 ∷ 11 ∷ 12 ∷ 5 ∷ 10 ∷ 4 ∷ 9 ∷ []) $ free-full ! $ free-full ! $ free-full ! $ free-full ! $ free-full ! $ free-full ! $ free0 ! $
         by ! (exits h′ t w (final g h n a h′ t e₁ e₂ e₃))))))))))))))
 
 close-meets : {M : Type 1} (𝓤 : URA M) (H : Heap 𝓤) (A : Atoms 𝓤) (W : Given 𝓤 H A) (mem′ : Memory → SProp 𝓤) (run : Routine → Fun 𝓤) (𝓣 : Tables 𝓤 H)

@@ -18,7 +18,7 @@ use ghost.Atoms.{Atoms, sem}
 use contract.Monad.{Fun, fact}
 use contract.Running.{givenOf, tables, tablesOf}
 use types.Kit.{Given, Item, ‵, raw, _⊛_, ⋆, some, later, _$_, _∵_, !, qed, by, move, drop, use1, use2, use3, split, join, pick, fsplit, fsplit3, fjoin, fjoin3, feqI, feqL, suffices, frame, await, done}
-use types.Run.{look, init, forget, stop, hop, fld, from, load, addr, and-then, no-more, assigns, land, enter, alloc1, alloc0, params1, pass1, pass0, free1, free0}
+use types.Run.{look, init, stop, hop, fld, from, load, addr, and-then, no-more, assigns, land, enter, alloc1, alloc0, params1, pass1, pass0, free0}
 use types.Part.{agg, whole, sub, look-in}
 use types.SemTy.{Body}
 use sound.WpLaws.{FmC, fmOf, WpFn-mono}
@@ -71,6 +71,7 @@ use Rattle.service.proofs.feed.Key.{name as #service·feed}
 use Rattle.service.proofs.feed as feed
 use Rattle.service.proofs.feed.Statement as stated
 use Rattle.service.proofs.feed.Code as code
+use Rattle.service.proofs.Free.{free-full}
 
 abbrev Hb : Plain
 Hb = record { type = hub-type.the-type; laws = hub-laws.the-laws; pure = hub-laws.the-plain }
@@ -163,21 +164,21 @@ module _ {M : Type 1} (𝓤 : URA M) (H : Heap 𝓤) (A : Atoms 𝓤) (W : Given
         → ent 𝓤 (onEntry 𝓤 H A feed.signature (κ₀, (κ₁, (κ₂, (κ₃, tt)))) (q₀, (q₁, (q₂, (q₃, tt)))) x at) (WpFn 𝓤 H C Λ code.function (valOf Hb g ∷ slice tb ∷ vptr b o ∷ vint w8 n ∷ slice bs ∷ slice rm ∷ []) Post)
     walk is-t is-b is-r =
         qed W ((‵ (flft κ₀ q₀) ⊛ ‵ (flft κ₁ q₁) ⊛ ‵ (flft κ₂ q₂) ⊛ ‵ (flft κ₃ q₃) ⊛ ‵ ftrue) ∷ ‵ (owns (rowOf Hb ∷ MutSlice (named 0) κ₀ u8 ∷ MutRef (named 1) κ₁ (rowOf R) ∷ u8 ∷ ShrSlice (named 2) κ₂ u8 ∷ MutSlice (named 3) κ₃ u8 ∷ []) x at) ∷ []) ∵
+        move ! (1 ∷ []) $ fsplit ! $ drop ! $ fsplit ! $ move ! (1 ∷ []) $ fsplit ! $ fsplit3 ! $ drop ! $ move ! (2 ∷ []) $ fsplit ! $ drop ! $ fsplit ! $ move ! (1 ∷ []) $ fsplit ! $ move ! (1 ∷ []) $ drop ! $
+        move ! (5 ∷ []) $ split ! $ move ! (1 ∷ []) $ split ! $ move ! (2 ∷ 1 ∷ []) $ join ! $
+        -- [the call's tokens; the record's; room; bytes; obs; the borrow; table]
         enter ! C Λ code.function (valOf Hb g ∷ slice tb ∷ vptr b o ∷ vint w8 n ∷ slice bs ∷ slice rm ∷ []) _ $
         alloc1 ! (λ l₀. alloc1 ! (λ l₁. alloc1 ! (λ l₂. alloc1 ! (λ l₃. alloc1 ! (λ l₄. alloc1 ! (λ l₅. alloc1 ! (λ l₆. alloc1 ! (λ l₇. alloc1 ! (λ l₈. alloc1 ! (λ l₉. alloc1 ! (λ l₁₀. alloc1 ! (λ l₁₁. alloc1 ! (λ l₁₂. alloc0 ! $ params1 ! $
         pass1 ! (init ! 22 refl (typed Hb 𝓤 H A W g (valOf Hb g) is-g)) $ pass1 ! (init ! 20 refl (mut-slice-lawful 𝓤 H A W (named 0) κ₀ u8 .typed tb (slice tb ∷ []) is-t .0)) $ pass1 ! (init ! 18 refl (tt, tt)) $ pass1 ! (init ! 16 refl (tt, record { fits = fits })) $
         pass1 ! (init ! 14 refl (shr-slice-lawful 𝓤 H A W (named 2) κ₂ u8 .typed bs (slice bs ∷ []) is-b .0)) $ pass1 ! (init ! 12 refl (mut-slice-lawful 𝓤 H A W (named 3) κ₃ u8 .typed rm (slice rm ∷ []) is-r .0)) $ pass0 ! $
-        -- [_12; …; _11; …; _10; …; _9; …; _8; …; _7; …; _6; …; _5; …; _4; …; _3; …; _2; …; _1; …; room for _0; …; the tokens; what the parameters own]
+        -- [_12; …; _11; …; _10; …; _9; …; _8; …; _7; …; _6; …; _5; …; _4; …; _3; …; _2; …; _1; …; room for _0; …; the call's tokens; the record's; room; bytes; obs; the borrow; table]
         assigns ! (addr ! (from ! (fld ! refl (hop ! (look-in ! 20 (sub ! 0 refl (whole !))) (stop !))))) (from ! (stop !)) (init ! 8 refl (tt, tt)) $
         assigns ! (agg ! (and-then ! (load ! (from ! (stop !)) (look ! 8 refl)) (and-then ! (load ! (from ! (fld ! refl (stop !))) (look-in ! 20 (sub ! 1 refl (whole !)))) (no-more !)))) (from ! (stop !)) (init ! 6 refl (mut-slice-lawful 𝓤 H A W erased κ₀ u8 .typed tb (slice tb ∷ []) is-t .0)) $
-        move ! (27 ∷ []) $ fsplit ! $ drop ! $ fsplit ! $ move ! (1 ∷ []) $ fsplit ! $ fsplit3 ! $ drop ! $ move ! (2 ∷ []) $ fsplit ! $ drop ! $ fsplit ! $ move ! (1 ∷ []) $ fsplit ! $ move ! (1 ∷ []) $ drop ! $
-        move ! (31 ∷ []) $ split ! $ move ! (1 ∷ []) $ split ! $ move ! (2 ∷ 1 ∷ []) $ join ! $
-        -- [the call's tokens; the record's; room; bytes; obs; the borrow; table; _12; …; _0; …]
-        move ! (4 ∷ 5 ∷ 1 ∷ 11 ∷ 25 ∷ []) $ takes-out R ! refl refl h (λ was.
-        -- [the record's cell; the open borrow; obs; auth; _10; _3; the call's tokens; room; bytes; table; _12; …; _11; …; …; _9; …; _8; …; _7; …; _6; …; _5; …; _4; …; …; _2; …; _1; …; room for _0; …]
-        assigns ! (addr ! (from ! (fld ! refl (hop ! (look-in ! 21 (sub ! 0 refl (whole !))) (stop !))))) (from ! (stop !)) (init ! 12 refl (tt, tt)) $
-        assigns ! (agg ! (and-then ! (load ! (from ! (stop !)) (look ! 12 refl)) (and-then ! (load ! (from ! (fld ! refl (stop !))) (look-in ! 21 (sub ! 1 refl (whole !)))) (no-more !)))) (from ! (stop !)) (init ! 10 refl (mut-slice-lawful 𝓤 H A W erased κ₃ u8 .typed rm (slice rm ∷ []) is-r .0)) $
-        move ! (8 ∷ 7 ∷ []) $ join ! $ move ! (7 ∷ 8 ∷ 0 ∷ []) $ use3 W (raw (Feed 𝓤 H A mem′ run .pre to-feed) ⊛ ‵ Bytes) (goes-feed was) $ split ! $
+        move ! (30 ∷ 31 ∷ 27 ∷ 4 ∷ 18 ∷ []) $ takes-out R ! refl refl h (λ was.
+        -- [the record's cell; the open borrow; obs; auth; _10; _3; _12; …; _11; …; …; _9; …; _8; …; _7; …; _6; …; _5; …; _4; …; …; _2; …; _1; …; room for _0; …; the call's tokens; room; bytes; table]
+        assigns ! (addr ! (from ! (fld ! refl (hop ! (look-in ! 17 (sub ! 0 refl (whole !))) (stop !))))) (from ! (stop !)) (init ! 8 refl (tt, tt)) $
+        assigns ! (agg ! (and-then ! (load ! (from ! (stop !)) (look ! 8 refl)) (and-then ! (load ! (from ! (fld ! refl (stop !))) (look-in ! 17 (sub ! 1 refl (whole !)))) (no-more !)))) (from ! (stop !)) (init ! 6 refl (mut-slice-lawful 𝓤 H A W erased κ₃ u8 .typed rm (slice rm ∷ []) is-r .0)) $
+        move ! (32 ∷ 31 ∷ []) $ join ! $ move ! (31 ∷ 32 ∷ 0 ∷ []) $ use3 W (raw (Feed 𝓤 H A mem′ run .pre to-feed) ⊛ ‵ Bytes) (goes-feed was) $ split ! $
         -- [what the call asks; bytes; the record's cell; the open borrow; obs; auth; _10; _3; _12; …]
         calls-at ! fm (Feed 𝓤 H A mem′ run) known to-feed
         (and-then ! (load ! (from ! (stop !)) (look ! 28 refl)) (and-then ! (load ! (from ! (stop !)) (look ! 13 refl)) (and-then ! (load ! (from ! (stop !)) (look ! 6 refl)) (and-then ! (load ! (from ! (stop !)) (look ! 23 refl)) (and-then ! (load ! (from ! (stop !)) (look ! 21 refl)) (and-then ! (load ! (from ! (stop !)) (look ! 8 refl)) (no-more !))))))) (λ u.
@@ -191,9 +192,8 @@ module _ {M : Type 1} (𝓤 : URA M) (H : Heap 𝓤) (A : Atoms 𝓤) (W : Given
         land ! (from ! (stop !)) (init ! 19 refl (typed An 𝓤 H A W a u is-a)) $
         move ! (4 ∷ 5 ∷ 6 ∷ 7 ∷ 8 ∷ 19 ∷ 9 ∷ 32 ∷ []) $ puts-back R An To record-of fedTold ! fm known-record known-told refl refl refl a u is-a (λ h′ v r w e₂ e₃.
         -- [the result; obs; the borrow; its token; _10; _7; _3; _0; the tokens; the last lists; bytes; _12; …; _11; …; …; _9; …; _8; …; …; _6; …; _5; …; _4; …; …; _2; …; _1; …; …]
-        forget ! 4 refl $ forget ! 5 refl $ forget ! 6 refl $ forget ! 7 refl $ forget ! 12 refl $ forget ! 14 refl $ forget ! 17 refl $ forget ! 19 refl $ forget ! 22 refl $ forget ! 24 refl $ forget ! 26 refl $ forget ! 29 refl $ forget ! 31 refl $
         move ! (7 ∷ 33 ∷ 31 ∷ 32 ∷ 29 ∷ 30 ∷ 6 ∷ 28 ∷ 26 ∷ 27 ∷ 24 ∷ 25 ∷ 22 ∷ 23 ∷ 5 ∷ 21 ∷ 19 ∷ 20 ∷ 17 ∷ 18 ∷ 4 ∷ 16 ∷ 14 ∷ 15 ∷ 12 ∷ 13 ∷ []) $
-        free1 ! $ free1 ! $ free1 ! $ free1 ! $ free1 ! $ free1 ! $ free1 ! $ free1 ! $ free1 ! $ free1 ! $ free1 ! $ free1 ! $ free1 ! $ free0 ! $
+        free-full ! $ free-full ! $ free-full ! $ free-full ! $ free-full ! $ free-full ! $ free-full ! $ free-full ! $ free-full ! $ free-full ! $ free-full ! $ free-full ! $ free-full ! $ free0 ! $
         by ! (exits h′ r w (ws .1 .0) (ws .1 .1 .1 .1 .1 .0) lt lr (final g (now tb) h n (now bs) (now rm) a (ws .1 .0) (ws .1 .1 .1 .1 .1 .0) h′ r e₁ e₂ e₃))))))))))))))))))))))))
 
 feed-meets : {M : Type 1} (𝓤 : URA M) (H : Heap 𝓤) (A : Atoms 𝓤) (W : Given 𝓤 H A) (mem′ : Memory → SProp 𝓤) (run : Routine → Fun 𝓤) (𝓣 : Tables 𝓤 H)
