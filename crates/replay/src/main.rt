@@ -58,7 +58,7 @@ fn after(hub: Hub, readings: [Reading; LINES], at: usize) -> Run
     }
 }
 
-// The run at another place.
+// The run with another place in the output and other bytes held, going on or not.
 fn placed(run: Run, at: usize, held: usize, going: bool) -> Run
     ensures { λ r. ⌜ r .held ≡ held ⌝ }
 {

@@ -5,6 +5,7 @@ use borrow.Author.Needs.{needs}
 use Rattle.replay.proofs.keep.Statement.{statement}
 use Rattle.replay.proofs.keep.Tie as tie
 
+-- The text keeps its length.
 abbrev Inv-loop : tie.InvT-loop
 Inv-loop text₀ from held n i₀ text i = length text ≡ length text₀
 

@@ -4,6 +4,7 @@ use borrow.Author.Needs.{needs}
 use Rattle.replay.proofs.line_end.Statement.{statement}
 use Rattle.replay.proofs.line_end.Tie as tie
 
+-- The place lies within the bytes, behind where the line goes on.
 abbrev Inv-loop : tie.InvT-loop
 Inv-loop bytes from i₀ i = (from ≤ i) × (i ≤ length bytes)
 

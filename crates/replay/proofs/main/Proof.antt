@@ -6,6 +6,7 @@ use borrow.Author.Needs.{needs}
 use Rattle.replay.proofs.main.Statement.{statement}
 use Rattle.replay.proofs.main.Tie as tie
 
+-- What is lent keeps its length, and an open line is held up to one byte more than the longest line has.
 abbrev Inv-loop : tie.InvT-loop
 Inv-loop table₀ text₀ out₀ run₀ turns₀ table text out run turns = (length table ≡ tableMost) × (length text ≡ longest + 65537) × (length out ≡ 65536) × (run .held ≤ longest + 1)
 

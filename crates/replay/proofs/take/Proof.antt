@@ -5,6 +5,7 @@ use borrow.Author.Needs.{needs}
 use Rattle.replay.proofs.take.Statement.{statement}
 use Rattle.replay.proofs.take.Tie as tie
 
+-- What is lent keeps its length, and the open line lies within the bytes.
 abbrev Inv-loop : tie.InvT-loop
 Inv-loop bytes seen table₀ out₀ all₀ from₀ end₀ table out all from end = (length table ≡ length table₀) × (length out ≡ length out₀) × (from ≤ end) × (end ≤ length bytes)
 
