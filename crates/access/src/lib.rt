@@ -1,16 +1,11 @@
 // The hub's state: password enter and change, and the sessions put back (document 01, "What the commands do").
 // Answers and hubs are the definition's: crate rules, specs/Hub.antt. It stands on the hub's rules and the lines' logins.
 ghost use mathlib.Core.Path.{_≡_};
-ghost use Rattle.rules.specs.Hub.{same, enter, change, withSlots};
+ghost use Rattle.rules.specs.Hub.{enter, change, withSlots};
 ghost use Rattle.access.specs.Answers.{Enters};
 ghost use Rattle.calls.specs.Replies.{passwordAt};
 use rules::Hub;
 use sessions::Slot;
-
-// The statuses of the password requests.
-const CORRECT: u8 = 0;
-
-const INCORRECT: u8 = 1;
 
 // What a password request answers, and the hub that it leaves.
 pub struct Entered {
@@ -18,12 +13,17 @@ pub struct Entered {
     pub hub: Hub,
 }
 
+// The statuses of the password requests.
+const CORRECT: u8 = 0;
+
+const INCORRECT: u8 = 1;
+
 // Password enter, on a line.
 pub fn enter(hub: Hub, line: u8, given: [u8; rules::PASSWORD]) -> Entered
     ensures { λ r. ⌜ Enters (enter hub line given) r ⌝ }
 {
     let password = hub.password;
-    if !same(given, password) {
+    if !octets::is_same(&given, &password) {
         return Entered {
             status: INCORRECT,
             hub: hub,
@@ -48,7 +48,7 @@ pub fn change(hub: Hub, old: [u8; rules::PASSWORD], new: [u8; rules::PASSWORD]) 
     ensures { λ r. ⌜ Enters (change hub old new) r ⌝ }
 {
     let password = hub.password;
-    if !same(old, password) {
+    if !octets::is_same(&old, &password) {
         return Entered {
             status: INCORRECT,
             hub: hub,
@@ -90,18 +90,4 @@ pub fn password_at(payload: &[u8], at: usize) -> [u8; rules::PASSWORD]
     }
     store::copy(&mut out, 0, &payload[at..]);
     out
-}
-
-// All bytes are compared.
-fn same(a: [u8; rules::PASSWORD], b: [u8; rules::PASSWORD]) -> bool
-    ensures { λ r. ⌜ r ≡ same a b ⌝ }
-{
-    let mut i = 0;
-    while i < rules::PASSWORD {
-        if a[i] != b[i] {
-            return false;
-        }
-        i += 1;
-    }
-    true
 }

@@ -1,8 +1,6 @@
 // What a mode send asks for: its data (document 01, mode send).
-// They are the definition's: crate sessions, specs/Sessions.antt: modeSendOf. It stands on the sessions' rules and the store.
-ghost use Prim.Native.Nat.{_+_, _*_};
+// They are the definition's: crate sessions, specs/Sessions.antt: modeSendOf. It stands on the sessions' rules, single bytes and the store.
 ghost use mathlib.Core.Path.{_≡_};
-ghost use lib.ListN.{getD};
 ghost use Rattle.sessions.specs.Sessions.{modeSendOf};
 use sessions::ModeSend;
 
@@ -10,12 +8,12 @@ use sessions::ModeSend;
 pub fn request(payload: &[u8]) -> ModeSend
     ensures { λ r. ⌜ r ≡ modeSendOf (now (payload .entry)) ⌝ }
 {
-    let session = word(byte(payload, 0), byte(payload, 1));
-    let originator = byte(payload, 2);
-    let priority = byte(payload, 3);
-    let count = byte(payload, 6);
+    let session = (octets::byte(payload, 0) as u16) * 256 + (octets::byte(payload, 1) as u16);
+    let originator = octets::byte(payload, 2);
+    let priority = octets::byte(payload, 3);
+    let count = octets::byte(payload, 6);
     let indices = indices_of(payload);
-    let lock = byte(payload, 27);
+    let lock = octets::byte(payload, 27);
     ModeSend {
         session,
         originator,
@@ -36,21 +34,4 @@ fn indices_of(payload: &[u8]) -> [u8; sessions::INDICES]
     }
     store::copy(&mut indices, 0, &payload[7..]);
     indices
-}
-
-// The byte at a place, 0 where there is none.
-fn byte(bytes: &[u8], place: usize) -> u8
-    ensures { λ r. ⌜ r ≡ getD (now (bytes .entry)) place 0 ⌝ }
-{
-    if bytes.len() <= place {
-        return 0;
-    }
-    bytes[place]
-}
-
-// A number of two bytes, the high one first.
-fn word(high: u8, low: u8) -> u16
-    ensures { λ r. ⌜ r ≡ high * 256 + low ⌝ }
-{
-    (high as u16) * 256 + (low as u16)
 }

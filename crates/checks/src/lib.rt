@@ -2,7 +2,6 @@
 // Judging answers as the definition does: crate frame, specs/Frame.antt.
 // It stands on what the line and the frame layer state.
 ghost use mathlib.Core.Path.{_≡_};
-ghost use Prim.Native.Nat.{_+_, _*_};
 ghost use Rattle.frame.specs.Frame.{judge};
 ghost use Rattle.frame.specs.Xor.{xorAll};
 ghost use Rattle.frame.specs.Answers.{Judges};
@@ -25,31 +24,19 @@ pub fn judge(packet: &[u8]) -> Judged
     if packet[0] != 0 {
         return Judged::Refused(Refusal::WrongProtocol);
     }
-    if wide(packet[1]) + 2 != n {
+    if (packet[1] as usize) + 2 != n {
         return Judged::Refused(Refusal::WrongLength);
     }
     let last = n - 1;
     if packet[last] != xor_all(&packet[0..last]) {
         return Judged::Refused(Refusal::WrongCheck);
     }
+    let command = (packet[2] as u16) * 256 + (packet[3] as u16);
     Judged::Frame {
-        command: word(packet[2], packet[3]),
+        command,
         start: HEAD,
         len: n - AROUND,
     }
-}
-
-fn wide(b: u8) -> usize
-    ensures { λ r. ⌜ r ≡ b ⌝ }
-{
-    b as usize
-}
-
-// A number of two bytes, the high one first.
-fn word(high: u8, low: u8) -> u16
-    ensures { λ r. ⌜ r ≡ high * 256 + low ⌝ }
-{
-    (high as u16) * 256 + (low as u16)
 }
 
 // The exclusive or of all bytes.

@@ -28,7 +28,7 @@ pub fn decode(text: &[u8], out: &mut [u8]) -> usize
 pub fn is_bytes(text: &[u8]) -> bool
     ensures { λ r. ⌜ r ≡ isBytes (now (text .entry)) ⌝ }
 {
-    if spelling::is_same(text, &NONE) {
+    if octets::is_same(text, &NONE) {
         return true;
     }
     if text.len() == 0 {

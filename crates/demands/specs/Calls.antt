@@ -11,6 +11,7 @@ use Rattle.frame.specs.Reading.{State}
 use Rattle.feeds.specs.System as feeds
 use Rattle.feeds.specs.Marks.{outcomeOf}
 use Rattle.rules.specs.declared.Hub.{Hub}
+use Rattle.octets.specs.Octets.{same}
 use Rattle.rules.specs.Hub as rules
 
 -- the hub, its table and the four lines' reading states
@@ -45,7 +46,7 @@ afterAll w (c ∷ cs) = afterAll (after w c) cs
 unfoldable pub isPassword : Hub → Option Outcome → Bool
 isPassword h none = false
 isPassword h (some (refused n)) = false
-isPassword h (some (frame c d)) = eqb c 0x3000 && (eqb (length d) rules.passwordSize && rules.same d (h .password))
+isPassword h (some (frame c d)) = eqb c 0x3000 && (eqb (length d) rules.passwordSize && same d (h .password))
 
 -- a call that is not refused logs out
 abbrev pub unlessRefused : Option ℕ → Bool → Bool

@@ -23,6 +23,7 @@ use Rattle.feeds.specs.Marks.{answers, countOf, outcomeOf, counted, usedOn, mar
 use Rattle.feeds.specs.Sent.{Sent, enclosed, sent}
 use Rattle.feeds.specs.Service.{worldOf}
 use Rattle.feeds.specs.AnyHub.{DamageIsolated, damage-isolated}
+use Rattle.octets.specs.Octets.{same}
 use Rattle.rules.specs.Hub as rules
 use Rattle.rules.specs.Hub.{firstHub, hub, serve}
 use Rattle.demands.specs.Calls.{World}
@@ -70,7 +71,7 @@ unfoldable its : List Bool
 its = false ∷ true ∷ false ∷ true ∷ false ∷ true ∷ true ∷ false ∷ false ∷ []
 
 example-results : results hub start entries ≡ given
-unfolding overfull start worldOf entry entries given serve rules.request rules.enter rules.same rules.getNode table.inUse lookup.verdict lookup.verdictOf lookup.find directory results feed returned call decided settled serveIf stateFor scan onward step verdict inner line.step line.decoded line.close line.wrongEscape line.tooLong judge wire escape framed body frames.tooLong frames.tooShort frames.wrongProtocol frames.wrongLength frames.wrongCheck xorAll _⊕_
+unfolding overfull start worldOf entry entries given serve rules.request rules.enter same rules.getNode table.inUse lookup.verdict lookup.verdictOf lookup.find directory results feed returned call decided settled serveIf stateFor scan onward step verdict inner line.step line.decoded line.close line.wrongEscape line.tooLong judge wire escape framed body frames.tooLong frames.tooShort frames.wrongProtocol frames.wrongLength frames.wrongCheck xorAll _⊕_
 example-results = refl
 
 example-marks : marks 0 1 entries (answers given) ≡ its

@@ -13,7 +13,8 @@ use Rattle.feeds.specs.System as feeds
 use Rattle.feeds.specs.SystemLaws.{Fed, barred, done, fed}
 use Rattle.rules.specs.declared.Hub.{Hub}
 use Rattle.demands.specs.Calls.{World, Call, start, enrol, close, finish, feed, after, afterAll, Unprivileged}
-use Rattle.rules.specs.Hub.{Reply, failure, unknownCommand, frameError, notLoggedIn, Password, same, enter, reply, request, isLoggedIn, serve, hub}
+use Rattle.octets.specs.Octets.{same}
+use Rattle.rules.specs.Hub.{Reply, failure, unknownCommand, frameError, notLoggedIn, Password, enter, reply, request, isLoggedIn, serve, hub}
 use Rattle.rules.specs.Cases.{either, each-verdict}
 
 -- what an outcome on a line that is not logged in leaves

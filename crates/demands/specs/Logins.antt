@@ -21,6 +21,7 @@ use Rattle.feeds.specs.System as feeds
 use Rattle.feeds.specs.Marks.{outcomeOf}
 use Rattle.feeds.specs.SystemLaws.{Fed, barred, done, fed}
 use Rattle.rules.specs.declared.Hub.{Hub}
+use Rattle.octets.specs.Octets.{same}
 use Rattle.rules.specs.Hub as rules
 use Rattle.rules.specs.Cases.{either, each-verdict, each-request}
 use Rattle.demands.specs.Calls.{World, Call, start, enrol, close, finish, feed, after, afterAll, isPassword, unlessRefused, loggedBy, loggedByAll}
@@ -32,7 +33,7 @@ Kept h r = r .hub .logins ≡ h .logins
 
 change-kept : (h : Hub) (old new : List ℕ) → rules.change h old new .hub .logins ≡ h .logins
 unfolding rules.change
-change-kept h old new = either (λ (p : rules.Password). p .hub .logins ≡ h .logins) (rules.same old (h .password)) _ _ refl refl
+change-kept h old new = either (λ (p : rules.Password). p .hub .logins ≡ h .logins) (same old (h .password)) _ _ refl refl
 
 -- every request but password enter leaves the logins
 request-kept : (h : Hub) (t : List ℕ) (l c : ℕ) (d : List ℕ) → eqb c 0x3000 ≡ false → Kept h (rules.request h t l c d)
@@ -57,9 +58,9 @@ out-of-range n e = go (leb 32 n) (leb n 32) refl refl
 
 -- password enter logs its line in exactly by the right password
 enter-logins : (h : Hub) (t : List ℕ) (l : ℕ) (d : List ℕ) → rules.serve h t l (frame 0x3000 d) .hub .logins
-    ≡ cond (eqb (length d) rules.passwordSize && rules.same d (h .password)) (set (h .logins) l true) (h .logins)
+    ≡ cond (eqb (length d) rules.passwordSize && same d (h .password)) (set (h .logins) l true) (h .logins)
 unfolding rules.serve rules.request rules.enter
-enter-logins h t l d = rw (enter-verdict (length d)) (go (eqb (length d) 32) refl (rules.isLoggedIn h l) (rules.same d (h .password)))
+enter-logins h t l d = rw (enter-verdict (length d)) (go (eqb (length d) 32) refl (rules.isLoggedIn h l) (same d (h .password)))
   where
     entered : Bool → rules.Password
     entered s =
@@ -90,7 +91,7 @@ serve-logins h t l (refused n) = refl
 serve-logins h t l (frame c d) = go (eqb c 0x3000) refl
   where
     go : (b : Bool) → eqb c 0x3000 ≡ b
-        → rules.serve h t l (frame c d) .hub .logins ≡ cond (b && (eqb (length d) rules.passwordSize && rules.same d (h .password))) (set (h .logins) l true) (h .logins)
+        → rules.serve h t l (frame c d) .hub .logins ≡ cond (b && (eqb (length d) rules.passwordSize && same d (h .password))) (set (h .logins) l true) (h .logins)
     go true e = rw (eqb-true c 0x3000 e) (enter-logins h t l d)
     go false e = each-verdict (Kept h) (lookup.verdict c (length d)) _ _ _ refl refl (either (Kept h) (rules.mayAsk (h .logins) l c) _ _ (request-kept h t l c d e) refl)
 

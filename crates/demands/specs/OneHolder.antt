@@ -16,7 +16,8 @@ use Rattle.directory.specs.Lookup as directory
 use Rattle.feeds.specs.System as feeds
 use Rattle.feeds.specs.SystemLaws.{Fed, barred, done, fed}
 use Rattle.rules.specs.declared.Hub.{Hub}
-use Rattle.rules.specs.Hub.{Reply, Password, same, enter, change, getNode, removeNodes, virginState, modeSend, request, mayAsk, serve, startRefusal, startBy, closeRefusal, closeBy, finishBy, hub}
+use Rattle.octets.specs.Octets.{same}
+use Rattle.rules.specs.Hub.{Reply, Password, enter, change, getNode, removeNodes, virginState, modeSend, request, mayAsk, serve, startRefusal, startBy, closeRefusal, closeBy, finishBy, hub}
 use Rattle.rules.specs.Cases.{either, each-verdict, each-request}
 use Rattle.demands.specs.Calls.{World, Call, start, enrol, close, finish, feed, after, afterAll}
 

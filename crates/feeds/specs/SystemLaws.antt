@@ -1,12 +1,12 @@
 -- Laws of feeds over any hub: a feed in two cases, and what is told on a line are the outcomes of the bytes used on it.
-use Prim.Native.Nat.{ℕ, zero, suc, _<_}
+use Prim.Native.Nat.{ℕ, _<_}
 use mathlib.Core.Path.{_≡_, refl, sym, ap, _∙_}
 use mathlib.Core.Bool.{Bool, true, false, cond}
 use mathlib.Core.List.{List, [], _∷_, _++_}
 use mathlib.Core.Option.{Option, none, some}
 use native.Mathlib.Omega.{arith}
 use lib.ListN.{length, take, getD, set, length-set}
-use lib.Seq.{getD-set-same, getD-set-other, set-getD}
+use lib.Seq.{drop-cons, getD-set-same, getD-set-other, set-getD}
 use lib.Dec.{eqb}
 use borrow.Author.Tests.{eqb-true, eqb-false}
 use Rattle.frame.specs.Frame.{Outcome}
@@ -15,12 +15,6 @@ use Rattle.frame.specs.ReadingLaws.{also-append, outcomes-append, final-append,
 use Rattle.feeds.specs.System.{Entry, System, refused, Result, World, serveIf, settled, decided, call, stateFor, returned, feed, results, endState}
 use Rattle.feeds.specs.CallLaws.{read-resets}
 use Rattle.feeds.specs.Marks.{answersOf, countOf, outcomeOf, outcomeOn, usedOn, toldOn}
-
--- Below the length the default plays no part.
-getD-any : {A : Type 0} (l : List A) (i : ℕ) (a b : A) → i < length l → getD l i a ≡ getD l i b
-getD-any [] i a b h = absurd (omega arith)
-getD-any (x ∷ l) zero a b h = refl
-getD-any (x ∷ l) (suc i) a b h = getD-any l i a b (omega arith)
 
 module _ (H : System) where
   -- What a feed comes to: refused, or u bytes read to the state s with an outcome or none.
@@ -62,7 +56,7 @@ module _ (H : System) where
     -- A feed on line l is lent its state.
     state-own : (w : World H) (e : Entry) → e .line ≡ l → l < length (w .states) → stateFor H w e ≡ own w
     unfolding stateFor
-    state-own w e p h = rw p (getD-any (w .states) l (e .spare) emptied h)
+    state-own w e p h = rw p (ap (λ (ss : List State). getD ss 0 emptied) (sym (drop-cons (w .states) l (e .spare) h) ∙ drop-cons (w .states) l emptied h))
 
     -- A state put back on line l is its state.
     pub own-set : (w : World H) (e : Entry) (s : State) → e .line ≡ l → l < length (w .states) → getD (set (w .states) (e .line) s) l emptied ≡ s

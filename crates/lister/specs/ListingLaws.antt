@@ -20,7 +20,7 @@ use Rattle.frame.specs.declared.Outcome.the-variants as given
 use Rattle.frame.specs.declared.Refusal.{Refusal}
 use Rattle.frame.specs.declared.Refusal.the-variants as causes
 use Rattle.frame.specs.declared.Told.{Told}
-use Rattle.frame.specs.Frame.{Outcome, refusal}
+use Rattle.frame.specs.Frame.{Outcome, refusal, head}
 use Rattle.frame.specs.Reading.{END, State, Scan, takenAs, also, outcomes, final, step, read}
 use Rattle.frame.specs.ReadingLaws.{outcomes-append, final-append, Tells, scan-tells, used-some}
 use Rattle.frame.specs.Answers.{told, Within, seen, answerOf, Answers}
@@ -44,7 +44,7 @@ given-lines : (g : Given) (bs : List ℕ) → Within g → length bs ≡ limit �
 unfolding lines
 given-lines given.Nothing bs x e = refl
 given-lines (given.Frame c n) bs x e =
-    let l : length (take n (drop 4 bs)) ≡ n = length-take-le n (drop 4 bs) (simp length-drop (omega arith)) in
+    let l : length (take n (drop head bs)) ≡ n = length-take-le n (drop head bs) (simp length-drop (omega arith)) in
     rw (append-nil, l)
 given-lines (given.Refused r) bs x e = append-nil (refusedLine (refusal r))
 

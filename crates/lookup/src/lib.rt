@@ -20,10 +20,10 @@ pub fn judge(command: u16, len: usize) -> Verdict
     match find(command) {
         Found::Nothing => Verdict::Unknown,
         Found::Listed(entry) => {
-            if len < wide(entry.least) {
+            if len < (entry.least as usize) {
                 return Verdict::WrongLength;
             }
-            if wide(entry.greatest) < len {
+            if (entry.greatest as usize) < len {
                 return Verdict::WrongLength;
             }
             Verdict::Fits
@@ -70,12 +70,6 @@ fn read(place: usize) -> Entry
         least,
         greatest,
     }
-}
-
-fn wide(x: u8) -> usize
-    ensures { λ r. ⌜ r ≡ x ⌝ }
-{
-    x as usize
 }
 
 // The entries, ascending by number. Each is one number, so that it stands on a line: the command's number, then a byte for

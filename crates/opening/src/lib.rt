@@ -35,7 +35,7 @@ pub fn mode_send(slots: [Slot; sessions::SLOTS], table: &[u8], line: u8, request
         };
     }
     let indices = request.indices;
-    let count = wide(request.count);
+    let count = request.count as usize;
     if any_held(slots, &indices[..count]) {
         return Sent {
             slots: slots,
@@ -83,7 +83,7 @@ fn any_held(slots: [Slot; sessions::SLOTS], indices: &[u8]) -> bool
 {
     let mut i = 0;
     while i < indices.len() {
-        let node = wide(indices[i]);
+        let node = indices[i] as usize;
         if is_held(slots, node) {
             return true;
         }
@@ -99,7 +99,7 @@ fn session_slot(line: u8, request: ModeSend) -> Slot
 {
     let number = request.session;
     let indices = request.indices;
-    let count = wide(request.count);
+    let count = request.count as usize;
     let nodes = marked(&indices[..count]);
     Slot {
         used: true,
@@ -116,7 +116,7 @@ fn marked(indices: &[u8]) -> [bool; sessions::TARGETS]
     let mut marks = [false; sessions::TARGETS];
     let mut i = 0;
     while i < indices.len() {
-        let next = with_mark(marks, wide(indices[i]));
+        let next = with_mark(marks, indices[i] as usize);
         marks = next;
         i += 1;
     }
@@ -131,10 +131,4 @@ fn with_mark(marks: [bool; sessions::TARGETS], node: usize) -> [bool; sessions::
         out[node] = true;
     }
     out
-}
-
-fn wide(x: u8) -> usize
-    ensures { λ r. ⌜ r ≡ x ⌝ }
-{
-    x as usize
 }

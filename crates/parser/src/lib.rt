@@ -51,22 +51,22 @@ pub fn parse(line: &[u8]) -> Call
 fn called(word: &[u8], line: &[u8], from: usize) -> Call
     ensures { λ r. ⌜ Tells (now (line .entry)) (called (now (word .entry)) (wordsFrom (now (line .entry)) from)) r ⌝ }
 {
-    if spelling::is_same(word, &START) {
+    if octets::is_same(word, &START) {
         return start(line, from);
     }
-    if spelling::is_same(word, &ENROL) {
+    if octets::is_same(word, &ENROL) {
         return enrol(line, from);
     }
-    if spelling::is_same(word, &FEED) {
+    if octets::is_same(word, &FEED) {
         return feed(line, from);
     }
-    if spelling::is_same(word, &CLOSE) {
+    if octets::is_same(word, &CLOSE) {
         return close(line, from);
     }
-    if spelling::is_same(word, &FINISH) {
+    if octets::is_same(word, &FINISH) {
         return finish(line, from);
     }
-    if spelling::is_same(word, &SHOW) {
+    if octets::is_same(word, &SHOW) {
         return show(line, from);
     }
     Call::Bad

@@ -1,10 +1,11 @@
 -- The hub (document 01, "The command directory", "What the commands do", host calls, "Numbers of refusal").
 use Prim.Native.Nat.{ℕ, _/_, _%_}
 use mathlib.Core.List.{List, [], _∷_, _++_}
-use mathlib.Core.Bool.{Bool, true, false, cond, not, _&&_, _||_}
+use mathlib.Core.Bool.{Bool, true, false, cond, not, _||_}
 use mathlib.Core.Option.{Option, none, some}
 use lib.ListN.{length, take, drop, set, getD, replicate}
 use lib.Dec.{ltb, eqb}
+use Rattle.octets.specs.Octets.{same}
 use Rattle.frame.specs.Frame.{Outcome, frame, refused, wire}
 use Rattle.frame.specs.Reading.{State, emptied}
 use Rattle.frame.specs.Writing.{minRoom}
@@ -86,20 +87,13 @@ pub record Password : Type 0 where
   pub status : ℕ
   pub hub : Hub
 
--- all bytes are compared
-unfoldable pub same : List ℕ → List ℕ → Bool
-same [] [] = true
-same [] (y ∷ ys) = false
-same (x ∷ xs) [] = false
-same (x ∷ xs) (y ∷ ys) = eqb x y && same xs ys
-
 abbrev pub correct : ℕ
 correct = 0
 
 abbrev pub incorrect : ℕ
 incorrect = 1
 
--- equal gives status 0 and logs the line in; otherwise status 1 and the login stays as it was
+-- all bytes are compared; equal gives status 0 and logs the line in; otherwise status 1 and the login stays as it was
 unfoldable pub enter : Hub → ℕ → List ℕ → Password
 enter h l d =
     cond (same d (h .password))

@@ -4,5 +4,4 @@ pub mod Refusals
 pub mod Promises
 pub mod Lengths
 pub mod Examples
-pub mod PasswordLaws
 pub mod Replies

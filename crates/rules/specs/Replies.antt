@@ -18,7 +18,8 @@ use Rattle.sessions.specs.Sessions.{slotCount, targetCount, closedSlot}
 use Rattle.sessions.specs.declared.Slot.{Slot}
 use Rattle.rules.specs.declared.Hub.{Hub}
 use Rattle.rules.specs.Hub as rules
-use Rattle.rules.specs.Hub.{Reply, firstHub, serve, request, enter, same, close, finish}
+use Rattle.octets.specs.Octets.{same}
+use Rattle.rules.specs.Hub.{Reply, firstHub, serve, request, enter, close, finish}
 
 -- ---- hubs and tables
 
@@ -69,11 +70,11 @@ leaves h n o h′ reply = row h (windows n) o h′ (windows n) reply
 abbrev answers : Hub → Outcome → List ℕ → Row
 answers h o reply = leaves h 4 o h reply
 
--- the right password, and a wrong one
+-- the right password, and one whose last byte is wrong
 abbrev passwords : List Row
 passwords =
     leaves firstHub 4 (frame 0x3000 (replicate 32 0)) loggedIn (0xC0 ∷ 0x00 ∷ 0x04 ∷ 0x30 ∷ 0x01 ∷ 0x00 ∷ 0x35 ∷ 0xC0 ∷ [])
-    ∷ answers loggedIn (frame 0x3000 (replicate 32 1)) (wire 0x3001 (1 ∷ []))
+    ∷ answers loggedIn (frame 0x3000 (replicate 31 0 ++ 1 ∷ [])) (wire 0x3001 (1 ∷ []))
     ∷ []
 
 -- the error frame
@@ -94,7 +95,7 @@ errors =
 abbrev changes : List Row
 changes =
     leaves loggedIn 4 (frame 0x3002 (replicate 32 0 ++ replicate 32 8)) (record { password = replicate 32 8; logins = loggedIn .logins; slots = loggedIn .slots }) (wire 0x3003 (0 ∷ []))
-    ∷ answers loggedIn (frame 0x3002 (replicate 32 8 ++ replicate 32 0)) (wire 0x3003 (1 ∷ []))
+    ∷ answers loggedIn (frame 0x3002 (replicate 31 0 ++ 8 ∷ replicate 32 0)) (wire 0x3003 (1 ∷ []))
     ∷ []
 
 -- 0210 follows 0201 where the node is in use

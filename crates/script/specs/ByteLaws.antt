@@ -11,34 +11,11 @@ use lib.ListN.{length, getD, drop, drop-of-length-le}
 use lib.Seq.{drop-cons}
 use lib.Dec.{leb, ltb, eqb}
 use borrow.Author.Tests.{leb-true, ltb-true, le-leb, lt-leb}
-use Rattle.script.specs.Script.{ascii, same, between, digitsFrom, digitsMost, leadingZero, isPlain, number, kept, numberUpTo, hexValue, allHex, isEven, isBytes, pairs, bytes}
+use Rattle.octets.specs.Octets.{same}
+use Rattle.octets.specs.OctetsLaws.{same-lengths}
+use Rattle.text.specs.Text.{ascii}
+use Rattle.script.specs.Script.{between, digitsFrom, digitsMost, leadingZero, isPlain, number, kept, numberUpTo, hexValue, allHex, isEven, isBytes, pairs, bytes}
 use Rattle.script.specs.Answers.{decoded, fitting}
-
--- ---- equal bytes
-
-pub same-lengths : (l m : List ℕ) → (length l ≡ length m → ⊥) → same l m ≡ false
-unfolding same
-same-lengths [] [] h = absurd (h refl)
-same-lengths [] (b ∷ m) h = refl
-same-lengths (a ∷ l) [] h = refl
-same-lengths (a ∷ l) (b ∷ m) h = go (eqb a b) (same-lengths l m (λ e. h (ap suc e)))
-  where
-    go : (t : Bool) → same l m ≡ false → (t && same l m) ≡ false
-    go true e = e
-    go false e = refl
-
-pub same-on : (l m : List ℕ) (i : ℕ) → i < length l → i < length m → eqb (getD l i 0) (getD m i 0) ≡ true
-    → same (drop i l) (drop i m) ≡ same (drop (i + 1) l) (drop (i + 1) m)
-unfolding same
-same-on l m i h k e = rw (drop-cons l i 0 h, drop-cons m i 0 k, e, add-one)
-
-pub same-not : (l m : List ℕ) (i : ℕ) → i < length l → i < length m → eqb (getD l i 0) (getD m i 0) ≡ false → same (drop i l) (drop i m) ≡ false
-unfolding same
-same-not l m i h k e = rw (drop-cons l i 0 h, drop-cons m i 0 k, e)
-
-pub same-end : (l m : List ℕ) (i : ℕ) → length l ≤ i → length m ≤ i → same (drop i l) (drop i m) ≡ true
-unfolding same
-same-end l m i h k = rw (drop-of-length-le l h, drop-of-length-le m k)
 
 -- ---- decimal digits
 

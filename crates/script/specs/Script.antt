@@ -1,12 +1,12 @@
 -- A line of the script and the call that it stands for. A line is the bytes between two LFs, and `none` is a bad line.
 use Prim.Native.Nat.{ℕ, _+_, _*_, _-_, _%_}
-use Prim.Native.Char.{code}
-use Prim.Native.String as Characters
 use mathlib.Core.List.{List, [], _∷_}
 use mathlib.Core.Bool.{Bool, true, false, cond, not, _&&_, _||_}
 use mathlib.Core.Option.{Option, none, some}
 use lib.ListN.{length, getD}
 use lib.Dec.{leb, ltb, eqb}
+use Rattle.octets.specs.Octets.{same}
+use Rattle.text.specs.Text.{ascii}
 
 -- ---- the format's numbers
 
@@ -50,17 +50,6 @@ before b (w ∷ ws) = (b ∷ w) ∷ ws
 unfoldable pub words : List ℕ → List (List ℕ)
 words [] = [] ∷ []
 words (b ∷ bs) = cond (eqb b space) ([] ∷ words bs) (before b (words bs))
-
--- the codes of a text's characters
-unfoldable pub ascii : Characters.String → List ℕ
-ascii Characters.[] = []
-ascii (Characters._∷_ c s) = code c ∷ ascii s
-
-unfoldable pub same : List ℕ → List ℕ → Bool
-same [] [] = true
-same [] (b ∷ m) = false
-same (a ∷ l) [] = false
-same (a ∷ l) (b ∷ m) = eqb a b && same l m
 
 abbrev pub between : ℕ → ℕ → ℕ → Bool
 between low high b = leb low b && leb b high

@@ -1,18 +1,16 @@
 -- Laws of lists that are changed place by place.
 use Prim.Native.Nat.{ℕ, zero, suc, _+_, _<_, _≤_}
-use mathlib.Core.Path.{_≡_, refl, ap, _∙_}
+use mathlib.Core.Path.{_≡_, refl, sym, ap, _∙_}
 use mathlib.Core.List.{List, [], _∷_, _++_, map, append-nil}
 use native.Mathlib.Numerals.{add-one}
 use native.Mathlib.Omega.{arith}
 use native.Mathlib.Nat.{not-suc-le-zero, le-of-suc-le-suc}
 use lib.ListN.{length, take, drop, set, getD, replicate, drop-of-length-le}
-use lib.Seq.{take-all, sets}
+use lib.Seq.{take-all, drop-cons, sets}
 
 -- an element that is there, whatever stands for one that is not
 pub getD-there : {A : Type 0} (l : List A) (i : ℕ) (d e : A) → i < length l → getD l i d ≡ getD l i e
-getD-there [] i d e h = absurd (not-suc-le-zero h)
-getD-there (a ∷ l) zero d e h = refl
-getD-there (a ∷ l) (suc i) d e h = getD-there l i d e (le-of-suc-le-suc h)
+getD-there {A} l i d e h = ap (λ (m : List A). getD m 0 d) (sym (drop-cons l i d h) ∙ drop-cons l i e h)
 
 -- the first k elements changed: one more, and all
 module _ {A : Type 0} (f : A → A) where

@@ -7,6 +7,12 @@ ghost use Rattle.answers.specs.Shows.{loginLine, nodeLine, readingLine, endLine
 ghost use Rattle.shows.specs.Word.{IsWord};
 use answers::Mode;
 
+// The word of a reading's mode between two spaces: the first `len` bytes.
+struct Word {
+    bytes: [u8; 9],
+    len: usize,
+}
+
 const NODE: [u8; 5] = *b"node ";
 
 const LINE: [u8; 5] = *b"line ";
@@ -16,12 +22,6 @@ const GAP: [u8; 1] = *b" ";
 const LINE_END: [u8; 1] = *b"\n";
 
 const END: [u8; 4] = *b"end\n";
-
-// The word of a reading's mode between two spaces: the first `len` bytes.
-struct Word {
-    bytes: [u8; 9],
-    len: usize,
-}
 
 // "login ABCD": a digit for each line, 1 where it is logged in.
 pub fn login_line(out: &mut [u8], at: usize, logins: [bool; 4]) -> usize

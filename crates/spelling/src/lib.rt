@@ -3,7 +3,7 @@
 ghost use Prim.Native.Nat.{_≤_};
 ghost use mathlib.Core.Path.{_≡_};
 ghost use lib.ListN.{length};
-ghost use Rattle.script.specs.Script.{digitsMost, same, between, digitsFrom, isPlain, numberUpTo};
+ghost use Rattle.script.specs.Script.{digitsMost, between, digitsFrom, isPlain, numberUpTo};
 ghost use Rattle.script.specs.Code.{told};
 use script::Number;
 
@@ -55,16 +55,10 @@ fn digits(text: &[u8]) -> Number
         if !is_between(digit, b'0', b'9') {
             return Number::Nothing;
         }
-        value = value * 10 + wide(digit - b'0');
+        value = value * 10 + ((digit - b'0') as usize);
         i += 1;
     }
     Number::Value(value)
-}
-
-fn wide(x: u8) -> usize
-    ensures { λ r. ⌜ r ≡ x ⌝ }
-{
-    x as usize
 }
 
 // Whether a byte lies in a range, both ends included.
@@ -75,21 +69,4 @@ pub fn is_between(b: u8, low: u8, high: u8) -> bool
         return false;
     }
     b <= high
-}
-
-// Whether two words are the same.
-pub fn is_same(a: &[u8], b: &[u8]) -> bool
-    ensures { λ r. ⌜ r ≡ same (now (a .entry)) (now (b .entry)) ⌝ }
-{
-    if a.len() != b.len() {
-        return false;
-    }
-    let mut i = 0;
-    while i < a.len() {
-        if a[i] != b[i] {
-            return false;
-        }
-        i += 1;
-    }
-    true
 }

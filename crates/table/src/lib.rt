@@ -1,8 +1,7 @@
 // The node table: which nodes are in use, and removal, in lent memory (document 01, "What the commands do").
-// Every byte of the table is the definition's: crate nodes, specs/Table.antt. It stands on the table's rules and the store's runs of bytes.
+// Every byte of the table is the definition's: crate nodes, specs/Table.antt. It stands on the table's rules, single bytes and the store's runs of bytes.
 ghost use Prim.Native.Nat.{_<_};
 ghost use mathlib.Core.Path.{_≡_};
-ghost use lib.ListN.{getD};
 ghost use Rattle.nodes.specs.Table.{nodeCount, inUse, bit, isRemoved, removeOne, remove};
 
 // Whether a node is in use.
@@ -12,7 +11,7 @@ pub fn in_use(table: &[u8], node: usize) -> bool
     if nodes::NODES <= node {
         return false;
     }
-    byte_at(table, node * nodes::RECORD) == 1
+    octets::byte(table, node * nodes::RECORD) == 1
 }
 
 // Whether the bits name node k, and it is in use.
@@ -28,19 +27,9 @@ pub fn is_removed(table: &[u8], bits: &[u8], k: usize) -> bool
 fn bit(bits: &[u8], k: usize) -> bool
     ensures { λ r. ⌜ r ≡ bit (now (bits .entry)) k ⌝ }
 {
-    let byte = byte_at(bits, k / 8);
+    let byte = octets::byte(bits, k / 8);
     let shift = (k % 8) as u8;
     (byte >> shift) % 2 == 1
-}
-
-// A byte that is not there counts as 0.
-fn byte_at(bytes: &[u8], at: usize) -> u8
-    ensures { λ r. ⌜ r ≡ getD (now (bytes .entry)) at 0 ⌝ }
-{
-    if at < bytes.len() {
-        return bytes[at];
-    }
-    0
 }
 
 // The nodes in use that the bits name are removed.

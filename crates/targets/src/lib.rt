@@ -13,7 +13,7 @@ use sessions::ModeSend;
 pub fn is_legal(table: &[u8], request: ModeSend) -> bool
     ensures { λ r. ⌜ r ≡ isLegal (now (table .entry)) request ⌝ }
 {
-    let count = wide(request.count);
+    let count = request.count as usize;
     if count < 1 {
         return false;
     }
@@ -51,7 +51,7 @@ fn targets_legal(table: &[u8], indices: &[u8]) -> bool
 fn is_target(table: &[u8], seen: &[u8], index: u8) -> bool
     ensures { λ r. ⌜ r ≡ (ltb index targetCount && (inUse (now (table .entry)) index && not (member index (now (seen .entry))))) ⌝ }
 {
-    let node = wide(index);
+    let node = index as usize;
     if sessions::TARGETS <= node {
         return false;
     }
@@ -72,12 +72,6 @@ fn is_member(bytes: &[u8], value: u8) -> bool
         i += 1;
     }
     false
-}
-
-fn wide(x: u8) -> usize
-    ensures { λ r. ⌜ r ≡ x ⌝ }
-{
-    x as usize
 }
 
 const ORIGINATORS: [u8; 10] = [1, 2, 3, 5, 8, 9, 11, 12, 13, 255];

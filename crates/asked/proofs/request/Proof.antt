@@ -5,11 +5,20 @@ use Rattle.asked.proofs.request.Tie as tie
 byte-requires : tie.Need-byte-requires
 byte-requires c κs = search needs
 
+cast-session : tie.Need-cast-session
+cast-session c = search needs
+
+mul-session : tie.Need-mul-session
+mul-session c = search needs
+
 byte-requires-2 : tie.Need-byte-requires-2
 byte-requires-2 c κs = search needs
 
-word-requires : tie.Need-word-requires
-word-requires c κs = search needs
+cast-session-2 : tie.Need-cast-session-2
+cast-session-2 c = search needs
+
+add-session : tie.Need-add-session
+add-session c = search needs
 
 byte-requires-3 : tie.Need-byte-requires-3
 byte-requires-3 c κs = search needs
@@ -27,15 +36,18 @@ byte-requires-6 : tie.Need-byte-requires-6
 byte-requires-6 c κs = search needs
 
 returns : tie.Need-returns
-returns c = simp (c .before .before .before .before .before .word .ensures, c .before .before .before .before .before .before .before .byte .ensures, c .before .before .before .before .before .before .byte2 .ensures, c .before .before .before .before .byte3 .ensures, c .before .before .before .byte4 .ensures, c .before .before .byte5 .ensures, c .before .indices-of .ensures, c .byte6 .ensures)
+returns c = simp (c .before .before .before .before .before .before .byte .ensures, c .before .before .before .before .before .byte2 .ensures, c .before .before .before .before .byte3 .ensures, c .before .before .before .byte4 .ensures, c .before .before .byte5 .ensures, c .before .indices-of .ensures, c .byte6 .ensures)
 
 pub request-spec : {M : Type 1} → statement M
 request-spec =
     tie.close
     (tie.spec
     byte-requires
+    cast-session
+    mul-session
     byte-requires-2
-    word-requires
+    cast-session-2
+    add-session
     byte-requires-3
     byte-requires-4
     byte-requires-5

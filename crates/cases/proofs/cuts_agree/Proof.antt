@@ -4,25 +4,22 @@ use Rattle.cases.proofs.cuts_agree.Statement.{statement}
 use Rattle.cases.proofs.cuts_agree.Tie as tie
 
 abbrev Inv-loop : tie.InvT-loop
-Inv-loop wire whole len at₀ at = at ≤ len
+Inv-loop wire whole place₀ place-end place = place ≤ place-end
 
 abbrev μ-loop : tie.MeasureT-loop
-μ-loop wire whole len at₀ at = len - at
+μ-loop wire whole place₀ place-end place = place-end - place
 
 loop-holds : tie.Need-loop-holds Inv-loop μ-loop
 loop-holds c = search needs
 
-cut-requires : tie.Need-cut-requires Inv-loop μ-loop
-cut-requires c κs = search needs
-
-same-requires : tie.Need-same-requires Inv-loop μ-loop
-same-requires c κs = search needs
+cut-agrees-requires : tie.Need-cut-agrees-requires Inv-loop μ-loop
+cut-agrees-requires c κs = search needs
 
 returns : tie.Need-returns Inv-loop μ-loop
 returns c = search needs
 
-add-at : tie.Need-add-at Inv-loop μ-loop
-add-at c = search needs
+add-place : tie.Need-add-place Inv-loop μ-loop
+add-place c = search needs
 
 loop-less : tie.Need-loop-less Inv-loop μ-loop
 loop-less c = search needs
@@ -40,10 +37,9 @@ cuts-agree-spec =
     Inv-loop
     μ-loop
     loop-holds
-    cut-requires
-    same-requires
+    cut-agrees-requires
     returns
-    add-at
+    add-place
     loop-less
     loop-again
     returns-2)

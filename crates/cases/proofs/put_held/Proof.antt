@@ -5,29 +5,38 @@ use borrow.Author.Needs.{needs}
 use Rattle.cases.proofs.put_held.Statement.{statement}
 use Rattle.cases.proofs.put_held.Tie as tie
 
-sub-put-bytes : tie.Need-sub-put-bytes
-sub-put-bytes c = search needs
+slice-aggregate-append : tie.Need-slice-aggregate-append
+slice-aggregate-append c = search needs
 
-part-put-bytes-start : tie.Need-part-put-bytes-start
-part-put-bytes-start c = search needs
+append-requires : tie.Need-append-requires
+append-requires c κs = search needs
 
-part-put-bytes-end : tie.Need-part-put-bytes-end
-part-put-bytes-end c = let l : length (c .before .before .before .args .reading .bytes) ≡ 255 = search needs in omega arith
-
-put-bytes-requires : tie.Need-put-bytes-requires
-put-bytes-requires c κs = search needs
+same-length : tie.Need-same-length
+same-length c = search needs
 
 returns : tie.Need-returns
 returns c = search needs
 
-put-decimal-requires : tie.Need-put-decimal-requires
-put-decimal-requires c κs = search needs
+slice-aggregate-bytes-line : tie.Need-slice-aggregate-bytes-line
+slice-aggregate-bytes-line c = search needs
 
-slice-aggregate-put-all : tie.Need-slice-aggregate-put-all
-slice-aggregate-put-all c = search needs
+sub-bytes-line : tie.Need-sub-bytes-line
+sub-bytes-line c = search needs
 
-put-all-requires : tie.Need-put-all-requires
-put-all-requires c κs = search needs
+part-bytes-line-start : tie.Need-part-bytes-line-start
+part-bytes-line-start c = search needs
+
+part-bytes-line-end : tie.Need-part-bytes-line-end
+part-bytes-line-end c = let l : length (c .before .before .before .before .before .before .before .args .reading .bytes) ≡ 255 = search needs in omega arith
+
+slice-aggregate-bytes-line-2 : tie.Need-slice-aggregate-bytes-line-2
+slice-aggregate-bytes-line-2 c = search needs
+
+bytes-line-requires : tie.Need-bytes-line-requires
+bytes-line-requires c κs = search needs
+
+same-length-2 : tie.Need-same-length-2
+same-length-2 c = search needs
 
 returns-2 : tie.Need-returns-2
 returns-2 c = search needs
@@ -36,12 +45,15 @@ pub put-held-spec : {M : Type 1} → statement M
 put-held-spec =
     tie.close
     (tie.spec
-    sub-put-bytes
-    part-put-bytes-start
-    part-put-bytes-end
-    put-bytes-requires
+    slice-aggregate-append
+    append-requires
+    same-length
     returns
-    put-decimal-requires
-    slice-aggregate-put-all
-    put-all-requires
+    slice-aggregate-bytes-line
+    sub-bytes-line
+    part-bytes-line-start
+    part-bytes-line-end
+    slice-aggregate-bytes-line-2
+    bytes-line-requires
+    same-length-2
     returns-2)

@@ -1,4 +1,5 @@
 use Prim.Native.Nat.{_+_, _≤_, _<_, _-_}
+use mathlib.Core.Path.{_≡_}
 use native.Mathlib.Omega.{arith}
 use lib.ListN.{length}
 use borrow.Author.Needs.{needs}
@@ -7,14 +8,14 @@ use Rattle.cases.proofs.read_all.Statement.{statement}
 use Rattle.cases.proofs.read_all.Tie as tie
 
 abbrev Inv-loop : tie.InvT-loop
-Inv-loop wire text₀ reading₀ at₀ text reading at = at ≤ length wire
+Inv-loop out₀ wire at₀ reading₀ place₀ out at reading place = (place ≤ length wire) × (length out ≡ length out₀)
 
 abbrev μ-loop : tie.MeasureT-loop
-μ-loop wire text₀ reading₀ at₀ text reading at = length wire - at
+μ-loop out₀ wire at₀ reading₀ place₀ out at reading place = length wire - place
 
 -- a call on the rest uses at least one byte, and no more than there are
 bounds : (c : tie.After-read Inv-loop μ-loop)
-    → (0 < c .read .result .used) × (c .before .before .before .loop .at + c .read .result .used ≤ length (c .before .before .before .before .before .before .before .args .wire .now))
+    → (0 < c .read .result .used) × (c .before .before .before .loop .place + c .read .result .used ≤ length (c .before .before .before .before .before .before .before .args .wire .now))
 bounds c = answer-rest _ (c .before .before .before .before .before .before .before .args .wire .now) _ _ (c .before .before .loop-test .taken) (c .read .ensures)
 
 loop-holds : tie.Need-loop-holds Inv-loop μ-loop
@@ -35,14 +36,17 @@ read-requires c κs = search needs
 put-outcome-requires : tie.Need-put-outcome-requires Inv-loop μ-loop
 put-outcome-requires c κs = search needs
 
-add-at : tie.Need-add-at Inv-loop μ-loop
-add-at c = let h = bounds (c .before .before) in omega arith
+add-place : tie.Need-add-place Inv-loop μ-loop
+add-place c = let h = bounds (c .before .before .before .before .before) in omega arith
 
 loop-less : tie.Need-loop-less Inv-loop μ-loop
-loop-less c = let h = bounds (c .before .before) in omega arith
+loop-less c = let h = bounds (c .before .before .before .before .before) in omega arith
 
 loop-again : tie.Need-loop-again Inv-loop μ-loop
-loop-again c = let h = bounds (c .before .before) in omega arith
+loop-again c = let h = bounds (c .before .before .before .before .before) in (omega arith, search needs)
+
+same-length : tie.Need-same-length Inv-loop μ-loop
+same-length c = search needs
 
 returns : tie.Need-returns Inv-loop μ-loop
 returns c = search needs
@@ -59,7 +63,8 @@ read-all-spec =
     part-read-end
     read-requires
     put-outcome-requires
-    add-at
+    add-place
     loop-less
     loop-again
+    same-length
     returns)

@@ -10,13 +10,9 @@ use borrow.Author.Needs.{needs}
 use Rattle.checks.proofs.judge.Statement.{statement}
 use Rattle.checks.proofs.judge.Tie as tie
 
--- the length byte and 2, as the code has them
-length-byte : (c : tie.After-wide) → c .wide .result + 2 ≡ getD (c .before .before .before .before .before .before .before .args .packet .now) 1 0 + 2
-length-byte c = ap (λ (n : ℕ). n + 2) (c .wide .ensures)
-
 -- the check byte due
-check-due : (c : tie.After-xor-all) → c .xor-all .result ≡ xorAll (take (length (c .before .before .before .before .before .before .before .before .before .before .before .args .packet .now) - 1) (c .before .before .before .before .before .before .before .before .before .before .before .args .packet .now))
-check-due c = c .xor-all .ensures ∙ ap (λ (n : ℕ). xorAll (take n (c .before .before .before .before .before .before .before .before .before .before .before .args .packet .now))) (sub-zero (length (c .before .before .before .before .before .before .before .before .before .before .before .args .packet .now) - 1))
+check-due : (c : tie.After-xor-all) → c .xor-all .result ≡ xorAll (take (length (c .before .before .before .before .before .before .before .before .before .before .args .packet .now) - 1) (c .before .before .before .before .before .before .before .before .before .before .args .packet .now))
+check-due c = c .xor-all .ensures ∙ ap (λ (n : ℕ). xorAll (take n (c .before .before .before .before .before .before .before .before .before .before .args .packet .now))) (sub-zero (length (c .before .before .before .before .before .before .before .before .before .before .args .packet .now) - 1))
 
 returns : tie.Need-returns
 unfolding judge tooLong
@@ -33,18 +29,18 @@ returns-3 : tie.Need-returns-3
 unfolding judge wrongProtocol
 returns-3 c = record { told = simp (le-leb _ _ (c .before .before .before .if1 .left), le-leb _ _ (c .before .before .if2 .left), ne-eqb _ _ (c .if3 .taken)); within = tt }
 
-shared-slice-read-wide : tie.Need-shared-slice-read-wide
-shared-slice-read-wide c = search needs
+shared-slice-read-if4 : tie.Need-shared-slice-read-if4
+shared-slice-read-if4 c = search needs
 
-wide-requires : tie.Need-wide-requires
-wide-requires c κs = search needs
+cast-if4 : tie.Need-cast-if4
+cast-if4 c = omega (arith, c .shared-slice-known3 .given 1)
 
 add-if4 : tie.Need-add-if4
-add-if4 c = omega (arith, c .wide .ensures, c .before .shared-slice-known3 .given 1)
+add-if4 c = omega (arith, c .shared-slice-known3 .given 1)
 
 returns-4 : tie.Need-returns-4
 unfolding judge wrongLength
-returns-4 c = record { told = simp (le-leb _ _ (c .before .before .before .before .before .before .if1 .left), le-leb _ _ (c .before .before .before .before .before .if2 .left), eq-eqb _ _ (c .before .before .before .if3 .left), ne-eqb _ _ (λ e. c .if4 .taken (length-byte (c .before) ∙ e))); within = tt }
+returns-4 c = record { told = simp (le-leb _ _ (c .before .before .before .before .before .if1 .left), le-leb _ _ (c .before .before .before .before .if2 .left), eq-eqb _ _ (c .before .before .if3 .left), ne-eqb _ _ (c .if4 .taken)); within = tt }
 
 sub-last : tie.Need-sub-last
 sub-last c = search needs
@@ -66,22 +62,31 @@ xor-all-requires c κs = search needs
 
 returns-5 : tie.Need-returns-5
 unfolding judge wrongCheck
-returns-5 c = record { told = simp (le-leb _ _ (c .before .before .before .before .before .before .before .before .before .before .if1 .left), le-leb _ _ (c .before .before .before .before .before .before .before .before .before .if2 .left), eq-eqb _ _ (c .before .before .before .before .before .before .before .if3 .left), eq-eqb _ _ (sym (length-byte (c .before .before .before .before .before)) ∙ c .before .before .before .before .if4 .left), ne-eqb _ _ (λ e. c .if5 .taken (e ∙ sym (check-due (c .before))))); within = tt }
+returns-5 c = record { told = simp (le-leb _ _ (c .before .before .before .before .before .before .before .before .before .if1 .left), le-leb _ _ (c .before .before .before .before .before .before .before .before .if2 .left), eq-eqb _ _ (c .before .before .before .before .before .before .if3 .left), eq-eqb _ _ (c .before .before .before .before .if4 .left), ne-eqb _ _ (λ e. c .if5 .taken (e ∙ sym (check-due (c .before))))); within = tt }
 
-shared-slice-read-word : tie.Need-shared-slice-read-word
-shared-slice-read-word c = search needs
+shared-slice-read-command : tie.Need-shared-slice-read-command
+shared-slice-read-command c = search needs
 
-shared-slice-read-word-2 : tie.Need-shared-slice-read-word-2
-shared-slice-read-word-2 c = search needs
+cast-command : tie.Need-cast-command
+cast-command c = omega (arith, c .shared-slice-known5 .given 2)
 
-word-requires : tie.Need-word-requires
-word-requires c κs = search needs
+mul-command : tie.Need-mul-command
+mul-command c = omega (arith, c .shared-slice-known5 .given 2)
+
+shared-slice-read-command-2 : tie.Need-shared-slice-read-command-2
+shared-slice-read-command-2 c = search needs
+
+cast-command-2 : tie.Need-cast-command-2
+cast-command-2 c = omega (arith, c .shared-slice-known6 .given 3)
+
+add-command : tie.Need-add-command
+add-command c = omega (arith, c .before .shared-slice-known5 .given 2, c .shared-slice-known6 .given 3)
 
 returns-6 : tie.Need-returns-6
 unfolding judge
 returns-6 c =
     record {
-      told = simp (le-leb _ _ (c .before .before .before .before .before .before .before .before .before .before .before .before .before .if1 .left), le-leb _ _ (c .before .before .before .before .before .before .before .before .before .before .before .before .if2 .left), eq-eqb _ _ (c .before .before .before .before .before .before .before .before .before .before .if3 .left), eq-eqb _ _ (sym (length-byte (c .before .before .before .before .before .before .before .before)) ∙ c .before .before .before .before .before .before .before .if4 .left), eq-eqb _ _ (c .before .before .before .if5 .left ∙ check-due (c .before .before .before .before)), c .word .ensures);
+      told = simp (le-leb _ _ (c .before .before .before .before .before .before .before .before .before .before .before .if1 .left), le-leb _ _ (c .before .before .before .before .before .before .before .before .before .before .if2 .left), eq-eqb _ _ (c .before .before .before .before .before .before .before .before .if3 .left), eq-eqb _ _ (c .before .before .before .before .before .before .if4 .left), eq-eqb _ _ (c .before .before .if5 .left ∙ check-due (c .before .before .before)));
       within = (refl, omega arith, omega arith);
     }
 
@@ -93,8 +98,8 @@ judge-spec =
     returns-2
     shared-slice-read-if3
     returns-3
-    shared-slice-read-wide
-    wide-requires
+    shared-slice-read-if4
+    cast-if4
     add-if4
     returns-4
     sub-last
@@ -104,7 +109,10 @@ judge-spec =
     part-xor-all-end
     xor-all-requires
     returns-5
-    shared-slice-read-word
-    shared-slice-read-word-2
-    word-requires
+    shared-slice-read-command
+    cast-command
+    mul-command
+    shared-slice-read-command-2
+    cast-command-2
+    add-command
     returns-6)

@@ -5,7 +5,9 @@ use native.Mathlib.Omega.{arith}
 use lib.ListN.{length}
 use borrow.Author.Tests.{lt-ltb, le-ltb, eq-eqb, ne-eqb}
 use borrow.Author.Needs.{needs}
-use Rattle.script.specs.Script.{ascii, same, isBytes}
+use Rattle.octets.specs.Octets.{same}
+use Rattle.text.specs.Text.{ascii}
+use Rattle.script.specs.Script.{isBytes}
 use Rattle.decoding.proofs.is_bytes.Statement.{statement}
 use Rattle.decoding.proofs.is_bytes.Tie as tie
 

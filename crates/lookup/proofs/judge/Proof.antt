@@ -22,8 +22,8 @@ enum-told c = search needs
 enum-known-entry : tie.Need-enum-known-entry
 enum-known-entry c = search needs
 
-wide-requires : tie.Need-wide-requires
-wide-requires c κs = search needs
+cast-if1 : tie.Need-cast-if1
+cast-if1 c = search needs
 
 returns : tie.Need-returns
 returns c =
@@ -32,8 +32,8 @@ returns c =
     let entry = at .entry .given .0 .0 in
     sym (verdict-found (a .command) (a .len) entry (found at) ∙ rw (lt-leb (entry .least) (a .len) (omega arith)))
 
-wide-requires-2 : tie.Need-wide-requires-2
-wide-requires-2 c κs = search needs
+cast-if2 : tie.Need-cast-if2
+cast-if2 c = search needs
 
 returns-2 : tie.Need-returns-2
 returns-2 c =
@@ -64,9 +64,9 @@ judge-spec =
     find-requires
     enum-told
     enum-known-entry
-    wide-requires
+    cast-if1
     returns
-    wide-requires-2
+    cast-if2
     returns-2
     returns-3
     returns-4)

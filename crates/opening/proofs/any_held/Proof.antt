@@ -1,5 +1,6 @@
 use Prim.Native.Nat.{_≤_, _-_}
 use mathlib.Core.Path.{_≡_, refl, sym, _∙_}
+use native.Mathlib.Omega.{arith}
 use lib.ListN.{length, drop, getD}
 use borrow.Author.Needs.{needs}
 use Rattle.sessions.specs.Search.{any}
@@ -15,23 +16,23 @@ Inv-loop slots indices i₀ i = (i ≤ length indices) × (any (λ n. any (holds
 abbrev μ-loop : tie.MeasureT-loop
 μ-loop slots indices i₀ i = length indices - i
 
-held : (c : tie.After-is-held Inv-loop μ-loop) → c .is-held .result ≡ any (holds (getD (c .before .before .before .before .before .before .args .indices .now) (c .before .before .before .before .loop .i) 0)) (c .before .before .before .before .before .before .args .slots)
-held c = c .is-held .ensures ∙ rw (c .before .wide .ensures)
+held : (c : tie.After-is-held Inv-loop μ-loop) → c .is-held .result ≡ any (holds (getD (c .before .before .before .before .before .args .indices .now) (c .before .before .before .loop .i) 0)) (c .before .before .before .before .before .args .slots)
+held c = c .is-held .ensures
 
 loop-holds : tie.Need-loop-holds Inv-loop μ-loop
 loop-holds c = (search needs, refl)
 
-shared-slice-read-wide : tie.Need-shared-slice-read-wide Inv-loop μ-loop
-shared-slice-read-wide c = search needs
+shared-slice-read-node : tie.Need-shared-slice-read-node Inv-loop μ-loop
+shared-slice-read-node c = search needs
 
-wide-requires : tie.Need-wide-requires Inv-loop μ-loop
-wide-requires c κs = search needs
+cast-node : tie.Need-cast-node Inv-loop μ-loop
+cast-node c = omega (arith, c .shared-slice-known2 .given (c .before .before .loop .i))
 
 is-held-requires : tie.Need-is-held-requires Inv-loop μ-loop
 is-held-requires c κs = search needs
 
 returns : tie.Need-returns Inv-loop μ-loop
-returns c = sym (c .before .before .before .before .before .loop .inv .1 ∙ any-found _ _ _ 0 (c .before .before .before .before .loop-test .taken) (sym (held (c .before)) ∙ c .if1 .taken))
+returns c = sym (c .before .before .before .before .loop .inv .1 ∙ any-found _ _ _ 0 (c .before .before .before .loop-test .taken) (sym (held (c .before)) ∙ c .if1 .taken))
 
 add-i : tie.Need-add-i Inv-loop μ-loop
 add-i c = search needs
@@ -40,7 +41,7 @@ loop-less : tie.Need-loop-less Inv-loop μ-loop
 loop-less c = search needs
 
 loop-again : tie.Need-loop-again Inv-loop μ-loop
-loop-again c = (search needs, c .before .before .before .before .before .loop .inv .1 ∙ any-on _ _ _ 0 (c .before .before .before .before .loop-test .taken) (sym (held (c .before)) ∙ c .if1 .left))
+loop-again c = (search needs, c .before .before .before .before .loop .inv .1 ∙ any-on _ _ _ 0 (c .before .before .before .loop-test .taken) (sym (held (c .before)) ∙ c .if1 .left))
 
 returns-2 : tie.Need-returns-2 Inv-loop μ-loop
 returns-2 c = sym (c .before .loop .inv .1 ∙ any-end _ _ _ (c .loop-test .left))
@@ -52,8 +53,8 @@ any-held-spec =
     Inv-loop
     μ-loop
     loop-holds
-    shared-slice-read-wide
-    wide-requires
+    shared-slice-read-node
+    cast-node
     is-held-requires
     returns
     add-i

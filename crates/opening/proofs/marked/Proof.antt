@@ -1,6 +1,7 @@
 use Prim.Native.Nat.{_≤_, _-_}
 use mathlib.Core.Bool.{false}
 use mathlib.Core.Path.{_≡_, refl, sym, _∙_}
+use native.Mathlib.Omega.{arith}
 use lib.ListN.{length, drop, replicate}
 use borrow.Author.Needs.{needs}
 use Rattle.sessions.specs.Sessions.{targetCount, marked}
@@ -18,11 +19,11 @@ abbrev μ-loop : tie.MeasureT-loop
 loop-holds : tie.Need-loop-holds Inv-loop μ-loop
 loop-holds c = (search needs, refl)
 
-shared-slice-read-wide : tie.Need-shared-slice-read-wide Inv-loop μ-loop
-shared-slice-read-wide c = search needs
+shared-slice-read-with-mark : tie.Need-shared-slice-read-with-mark Inv-loop μ-loop
+shared-slice-read-with-mark c = search needs
 
-wide-requires : tie.Need-wide-requires Inv-loop μ-loop
-wide-requires c κs = search needs
+cast-with-mark : tie.Need-cast-with-mark Inv-loop μ-loop
+cast-with-mark c = omega (arith, c .shared-slice-known2 .given (c .before .before .loop .i))
 
 with-mark-requires : tie.Need-with-mark-requires Inv-loop μ-loop
 with-mark-requires c κs = search needs
@@ -34,7 +35,7 @@ loop-less : tie.Need-loop-less Inv-loop μ-loop
 loop-less c = search needs
 
 loop-again : tie.Need-loop-again Inv-loop μ-loop
-loop-again c = (search needs, c .before .before .before .before .loop .inv .1 ∙ marked-on _ _ _ (c .before .before .before .loop-test .taken) ∙ rw (← c .before .wide .ensures, ← c .with-mark .ensures))
+loop-again c = (search needs, c .before .before .before .loop .inv .1 ∙ marked-on _ _ _ (c .before .before .loop-test .taken) ∙ rw (← c .with-mark .ensures))
 
 returns : tie.Need-returns Inv-loop μ-loop
 returns c = sym (c .before .loop .inv .1 ∙ marked-end _ _ _ (c .loop-test .left))
@@ -46,8 +47,8 @@ marked-spec =
     Inv-loop
     μ-loop
     loop-holds
-    shared-slice-read-wide
-    wide-requires
+    shared-slice-read-with-mark
+    cast-with-mark
     with-mark-requires
     add-i
     loop-less

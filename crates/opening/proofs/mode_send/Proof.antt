@@ -34,7 +34,7 @@ some-free : (c : tie.Else3) → any isFree (c .before .before .before .before .b
 some-free c = free (c .before) ∙ lt-ltb _ _ (c .if3 .left)
 
 held : (c : tie.After-any-held) → c .any-held .result ≡ any (λ n. any (holds n) (c .before .before .before .before .before .before .before .before .before .before .before .args .slots)) (named (c .before .before .before .before .before .before .before .before .before .before .before .args .request))
-held c = c .any-held .ensures ∙ rw (c .before .before .wide .ensures)
+held c = c .any-held .ensures
 
 is-legal-requires : tie.Need-is-legal-requires
 is-legal-requires c κs = search needs
@@ -57,11 +57,11 @@ returns-3 : tie.Need-returns-3
 unfolding modeSend
 returns-3 c = simp (legal (c .before .before .before .before), unnumbered (c .before .before), free (c .before) ∙ le-ltb _ _ (c .if3 .taken))
 
-wide-requires : tie.Need-wide-requires
-wide-requires c κs = search needs
+cast-count : tie.Need-cast-count
+cast-count c = search needs
 
 array-share-prefix-indices : tie.Need-array-share-prefix-indices
-array-share-prefix-indices c = let long : length (c .before .before .before .before .before .before .before .before .before .args .request .indices) ≡ maxIndices = search needs in omega (arith, long, few (c .before .before .before .before .before .before), c .wide .ensures)
+array-share-prefix-indices c = let long : length (c .before .before .before .before .before .before .before .before .before .args .request .indices) ≡ maxIndices = search needs in omega (arith, long, few (c .before .before .before .before .before .before))
 
 slice-aggregate-any-held : tie.Need-slice-aggregate-any-held
 slice-aggregate-any-held c = sym (length-take-le _ _ (array-share-prefix-indices (c .before)))
@@ -96,7 +96,7 @@ mode-send-spec =
     returns-2
     first-free-requires
     returns-3
-    wide-requires
+    cast-count
     array-share-prefix-indices
     slice-aggregate-any-held
     any-held-requires

@@ -7,11 +7,11 @@ use Rattle.sessions.specs.Sessions.{maxIndices}
 use Rattle.opening.proofs.session_slot.Statement.{statement}
 use Rattle.opening.proofs.session_slot.Tie as tie
 
-wide-requires : tie.Need-wide-requires
-wide-requires c κs = search needs
+cast-count : tie.Need-cast-count
+cast-count c = search needs
 
 array-share-prefix-indices : tie.Need-array-share-prefix-indices
-array-share-prefix-indices c = let long : length (c .before .before .args .request .indices) ≡ maxIndices = search needs in omega (arith, long, c .wide .ensures)
+array-share-prefix-indices c = let long : length (c .before .before .args .request .indices) ≡ maxIndices = search needs in omega (arith, long)
 
 slice-aggregate-marked : tie.Need-slice-aggregate-marked
 slice-aggregate-marked c = sym (length-take-le _ _ (array-share-prefix-indices (c .before)))
@@ -20,13 +20,13 @@ marked-requires : tie.Need-marked-requires
 marked-requires c κs = search needs
 
 returns : tie.Need-returns
-returns c = simp (c .marked .ensures, c .before .before .wide .ensures)
+returns c = simp (c .marked .ensures)
 
 pub session-slot-spec : {M : Type 1} → statement M
 session-slot-spec =
     tie.close
     (tie.spec
-    wide-requires
+    cast-count
     array-share-prefix-indices
     slice-aggregate-marked
     marked-requires

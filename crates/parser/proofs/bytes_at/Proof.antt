@@ -3,7 +3,9 @@ use mathlib.Core.Path.{sym, _∙_}
 use native.Mathlib.Omega.{arith}
 use lib.ListN.{length}
 use borrow.Author.Tests.{not-true, not-false}
-use Rattle.script.specs.Script.{ascii, same, isBytes}
+use Rattle.octets.specs.Octets.{same}
+use Rattle.text.specs.Text.{ascii}
+use Rattle.script.specs.Script.{isBytes}
 use Rattle.script.specs.WordLaws.{end-part, from-behind, from-first, from-rest}
 use Rattle.script.specs.CallLaws.{word-part}
 use borrow.Author.Needs.{needs}

@@ -1,6 +1,7 @@
 use mathlib.Core.Path.{_≡_, refl, sym, _∙_}
 use mathlib.Core.Bool.{Bool}
-use Rattle.script.specs.Script.{ascii, called}
+use Rattle.text.specs.Text.{ascii}
+use Rattle.script.specs.Script.{called}
 use borrow.Author.Needs.{needs}
 use Rattle.parser.proofs.called.Statement.{statement}
 use Rattle.parser.proofs.called.Tie as tie

@@ -46,16 +46,16 @@ returns c =
 mul-value : tie.Need-mul-value Inv-loop μ-loop
 mul-value c = let s = short (c .before .before .before) in omega arith
 
-sub-wide : tie.Need-sub-wide Inv-loop μ-loop
-sub-wide c = between-is _ _ _ (digit c) .0
+sub-value : tie.Need-sub-value Inv-loop μ-loop
+sub-value c = between-is _ _ _ (digit c) .0
 
-wide-requires : tie.Need-wide-requires Inv-loop μ-loop
-wide-requires c κs = search needs
+cast-value : tie.Need-cast-value Inv-loop μ-loop
+cast-value c = let d = few c in omega arith
 
 add-value : tie.Need-add-value Inv-loop μ-loop
 add-value c =
-    let s = short (c .before .before .before .before) in
-    let d = few (c .before) in
+    let s = short (c .before .before .before) in
+    let d = few c in
     omega arith
 
 add-i : tie.Need-add-i Inv-loop μ-loop
@@ -66,10 +66,10 @@ loop-less c = omega arith
 
 loop-again : tie.Need-loop-again Inv-loop μ-loop
 loop-again c =
-    let l = c .before .before .before .before .before .loop in
-    let d = few (c .before) in
+    let l = c .before .before .before .before .loop in
+    let d = few c in
     let p : 10 ^ (l .i + 1) ≡ 10 ^ (l .i) * 10 = rw add-one (pow-suc 10 (l .i)) in
-    (omega arith, rw (c .wide .ensures, p) (omega arith), l .inv .2 ∙ rw (c .wide .ensures) (digits-on _ (l .i) (l .value) (c .before .before .before .before .loop-test .taken) (digit (c .before))))
+    (omega arith, rw p (omega arith), l .inv .2 ∙ digits-on _ (l .i) (l .value) (c .before .before .before .loop-test .taken) (digit c))
 
 returns-2 : tie.Need-returns-2 Inv-loop μ-loop
 returns-2 c = let l = c .before .loop in sym (l .inv .2 ∙ digits-end _ (l .i) (l .value) (c .loop-test .left))
@@ -85,8 +85,8 @@ digits-spec =
     is-between-requires
     returns
     mul-value
-    sub-wide
-    wide-requires
+    sub-value
+    cast-value
     add-value
     add-i
     loop-less

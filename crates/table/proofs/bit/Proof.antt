@@ -3,8 +3,8 @@ use borrow.Author.Needs.{needs}
 use Rattle.table.proofs.bit.Statement.{statement}
 use Rattle.table.proofs.bit.Tie as tie
 
-byte-at-requires : tie.Need-byte-at-requires
-byte-at-requires c κs = search needs
+byte-requires : tie.Need-byte-requires
+byte-requires c κs = search needs
 
 cast-shift : tie.Need-cast-shift
 cast-shift c = search needs
@@ -14,7 +14,7 @@ shr-result c = search needs
 
 returns : tie.Need-returns
 unfolding bit
-returns c = rw (c .byte-at .ensures)
+returns c = rw (c .byte .ensures)
 
 pub bit-spec : {M : Type 1} → statement M
-bit-spec = tie.close (tie.spec byte-at-requires cast-shift shr-result returns)
+bit-spec = tie.close (tie.spec byte-requires cast-shift shr-result returns)

@@ -9,15 +9,15 @@ returns : tie.Need-returns
 unfolding inUse
 returns c = simp (le-ltb _ _ (c .if1 .taken))
 
-mul-byte-at : tie.Need-mul-byte-at
-mul-byte-at c = search needs
+mul-byte : tie.Need-mul-byte
+mul-byte c = search needs
 
-byte-at-requires : tie.Need-byte-at-requires
-byte-at-requires c κs = search needs
+byte-requires : tie.Need-byte-requires
+byte-requires c κs = search needs
 
 returns-2 : tie.Need-returns-2
 unfolding inUse
-returns-2 c = simp (lt-ltb _ _ (c .before .if1 .left), add-zero, c .byte-at .ensures)
+returns-2 c = simp (lt-ltb _ _ (c .before .if1 .left), add-zero, c .byte .ensures)
 
 pub in-use-spec : {M : Type 1} → statement M
-in-use-spec = tie.close (tie.spec returns mul-byte-at byte-at-requires returns-2)
+in-use-spec = tie.close (tie.spec returns mul-byte byte-requires returns-2)

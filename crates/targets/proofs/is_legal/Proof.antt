@@ -12,27 +12,27 @@ use Rattle.targets.proofs.is_legal.Statement.{statement}
 use Rattle.targets.proofs.is_legal.Tie as tie
 
 some-named : (c : tie.Else1) → leb 1 (c .before .before .before .args .request .count) ≡ true
-some-named c = rw (← c .before .wide .ensures) (le-leb _ _ (c .if1 .left))
+some-named c = le-leb _ _ (c .if1 .left)
 
 few-named : (c : tie.Else2) → leb (c .before .before .before .before .args .request .count) maxIndices ≡ true
-few-named c = rw (← c .before .before .wide .ensures) (le-leb _ _ (c .if2 .left))
+few-named c = le-leb _ _ (c .if2 .left)
 
 targets : (c : tie.After-targets-legal) → c .targets-legal .result ≡ targetsLegal (c .before .before .before .before .before .before .before .args .table .now) [] (named (c .before .before .before .before .before .before .before .args .request))
-targets c = c .targets-legal .ensures ∙ rw (c .before .before .before .before .before .wide .ensures)
+targets c = c .targets-legal .ensures
 
 legal : (c : tie.Else3) → targetsLegal (c .before .before .before .before .before .before .before .before .args .table .now) [] (named (c .before .before .before .before .before .before .before .before .args .request)) ≡ true
 legal c = sym (targets (c .before)) ∙ not-false _ (c .if3 .left)
 
-wide-requires : tie.Need-wide-requires
-wide-requires c κs = search needs
+cast-count : tie.Need-cast-count
+cast-count c = search needs
 
 returns : tie.Need-returns
 unfolding isLegal
-returns c = let none : leb 1 (c .before .before .before .args .request .count) ≡ false = rw (← c .before .wide .ensures) (lt-leb _ _ (c .if1 .taken)) in simp none
+returns c = simp (lt-leb _ _ (c .if1 .taken))
 
 returns-2 : tie.Need-returns-2
 unfolding isLegal
-returns-2 c = let many : leb (c .before .before .before .before .args .request .count) maxIndices ≡ false = rw (← c .before .before .wide .ensures) (lt-leb _ _ (c .if2 .taken)) in simp (some-named (c .before), many)
+returns-2 c = simp (some-named (c .before), lt-leb _ _ (c .if2 .taken))
 
 array-share-prefix-indices : tie.Need-array-share-prefix-indices
 array-share-prefix-indices c = let long : length (c .before .before .before .before .before .args .request .indices) ≡ maxIndices = search needs in omega (arith, long, c .before .if2 .left)
@@ -69,7 +69,7 @@ pub is-legal-spec : {M : Type 1} → statement M
 is-legal-spec =
     tie.close
     (tie.spec
-    wide-requires
+    cast-count
     returns
     returns-2
     array-share-prefix-indices

@@ -8,17 +8,14 @@ use Rattle.sessions.specs.Sessions.{targetCount}
 use Rattle.targets.proofs.is_target.Statement.{statement}
 use Rattle.targets.proofs.is_target.Tie as tie
 
-near : (c : tie.Else1) → ltb (c .before .before .before .before .args .index) targetCount ≡ true
-near c = rw (← c .before .wide .ensures) (lt-ltb _ _ (c .if1 .left))
+near : (c : tie.Else1) → ltb (c .before .before .before .args .index) targetCount ≡ true
+near c = lt-ltb _ _ (c .if1 .left)
 
-used : (c : tie.After-in-use) → c .in-use .result ≡ inUse (c .before .before .before .before .before .args .table .now) (c .before .before .before .before .before .args .index)
-used c = c .in-use .ensures ∙ rw (c .before .before .wide .ensures)
-
-wide-requires : tie.Need-wide-requires
-wide-requires c κs = search needs
+used : (c : tie.After-in-use) → c .in-use .result ≡ inUse (c .before .before .before .before .args .table .now) (c .before .before .before .before .args .index)
+used c = c .in-use .ensures
 
 returns : tie.Need-returns
-returns c = let far : ltb (c .before .before .before .before .args .index) targetCount ≡ false = rw (← c .before .wide .ensures) (le-ltb _ _ (c .if1 .taken)) in simp far
+returns c = simp (le-ltb _ _ (c .if1 .taken))
 
 in-use-requires : tie.Need-in-use-requires
 in-use-requires c κs = search needs
@@ -35,4 +32,4 @@ returns-3 c = simp (near (c .before .before .before), sym (used (c .before .befo
 pub is-target-spec : {M : Type 1} → statement M
 is-target-spec =
     tie.close
-    (tie.spec wide-requires returns in-use-requires returns-2 is-member-requires returns-3)
+    (tie.spec returns in-use-requires returns-2 is-member-requires returns-3)

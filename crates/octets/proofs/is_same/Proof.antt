@@ -4,10 +4,10 @@ use native.Mathlib.Omega.{arith}
 use lib.ListN.{length, drop}
 use borrow.Author.Tests.{eq-eqb, ne-eqb}
 use borrow.Author.Needs.{needs}
-use Rattle.script.specs.Script.{same}
-use Rattle.script.specs.ByteLaws.{same-lengths, same-on, same-not, same-end}
-use Rattle.spelling.proofs.is_same.Statement.{statement}
-use Rattle.spelling.proofs.is_same.Tie as tie
+use Rattle.octets.specs.Octets.{same}
+use Rattle.octets.specs.OctetsLaws.{same-lengths, same-on, same-not, same-end}
+use Rattle.octets.proofs.is_same.Statement.{statement}
+use Rattle.octets.proofs.is_same.Tie as tie
 
 -- The bytes before i are equal: what is left decides.
 abbrev Inv-loop : tie.InvT-loop

@@ -1,4 +1,4 @@
--- `cases::seen` meets its contract: a walk of its MIR, by hand. The view that one call returns is held in a local, and its command number and its
+-- `framing::seen` meets its contract: a walk of its MIR, by hand. The view that one call returns is held in a local, and its command number and its
 -- data are read by two more. All that the proof knows of the callees is that each meets its contract.
 -- The view is Copy: what it owns is had again for the second of them.
 use mathlib.Core.Path.{refl}
@@ -51,17 +51,17 @@ use Rattle.view.proofs.data as part
 use Rattle.view.proofs.data.Symbol as part-def
 use Rattle.view.proofs.data.Symbol.{name as #view·data}
 use Rattle.view.proofs.data.Met as part-thm
-use Rattle.cases.specs.declared.Text.{Text}
-use Rattle.cases.proofs.Text as X
-use Rattle.cases.proofs.Text.Laws as X′
-use Rattle.cases.proofs.shown as shown
-use Rattle.cases.proofs.shown.Symbol as shown-def
-use Rattle.cases.proofs.shown.Symbol.{name as #cases·shown}
-use Rattle.cases.proofs.shown.Met as shown-thm
-use Rattle.cases.proofs.seen.Key.{name as #cases·seen}
-use Rattle.cases.proofs.seen as seen
-use Rattle.cases.proofs.seen.Statement as stated
-use Rattle.cases.proofs.seen.Code as code
+use Rattle.framing.specs.declared.Copied.{Copied}
+use Rattle.framing.proofs.Copied as X
+use Rattle.framing.proofs.Copied.Laws as X′
+use Rattle.framing.proofs.shown as shown
+use Rattle.framing.proofs.shown.Symbol as shown-def
+use Rattle.framing.proofs.shown.Symbol.{name as #framing·shown}
+use Rattle.framing.proofs.shown.Met as shown-thm
+use Rattle.framing.proofs.seen.Key.{name as #framing·seen}
+use Rattle.framing.proofs.seen as seen
+use Rattle.framing.proofs.seen.Statement as stated
+use Rattle.framing.proofs.seen.Code as code
 
 abbrev stayed : Stays (seen.ended .signature .params) (seen.ended .kept)
 stayed = (stay-none-slice (0 ∷ []) tt (plain (λ _. u8)) yes, tt)
@@ -138,13 +138,13 @@ module _ {M : Type 1} (𝓤 : URA M) (H : Heap 𝓤) (A : Atoms 𝓤) (W : Given
       qed W (‵ (S .own d (u₃ ∷ [])) ∷ (‵ (flft κ q) ⊛ ‵ ftrue) ∷ []) ∵
       nothing ! $ move ! (1 ∷ 0 ∷ []) $ fjoin ! $ owned ! u16 (Is u16) (uint-makes 𝓤 H A W w16) c _ is $ fjoin ! $ move ! (1 ∷ 0 ∷ []) $ join ! $ frame ! $ done !
 
-  exits : (t : Text) (u : Val) → ent 𝓤 (⋆ 𝓤 H A (‵ (X.the-row .own t (u ∷ [])) ∷ (‵ (flft κ q) ⊛ ‵ ftrue) ∷ ‵ Own ∷ [])) (Post u)
+  exits : (t : Copied) (u : Val) → ent 𝓤 (⋆ 𝓤 H A (‵ (X.the-row .own t (u ∷ [])) ∷ (‵ (flft κ q) ⊛ ‵ ftrue) ∷ ‵ Own ∷ [])) (Post u)
   exits t u =
       qed W (‵ (X.the-row .own t (u ∷ [])) ∷ (‵ (flft κ q) ⊛ ‵ ftrue) ∷ ‵ Own ∷ []) ∵
       suffices ! _ (ends-at 𝓤 H A seen.ended stayed (seen.clauses 𝓤 H A mem run) W (((κ, tt), (q, tt), tt, (s, tt), (v ∷ [], tt)), tt) u t (tt, tt) (tt, tt)) $
       nothing ! $ move ! (3 ∷ 0 ∷ []) $ fjoin ! $ join ! $ move ! (1 ∷ 0 ∷ []) $ join ! $ frame ! $ done !
 
-  module _ (C : Calls 𝓤 H) (Λ : Loops 𝓤 H) (fm : FmC 𝓤 H (W .laws) C) (known-show : Triple 𝓤 (C #view·show) (Show 𝓤 H A mem run)) (known-command : Triple 𝓤 (C #view·command) (Command 𝓤 H A mem run)) (known-part : Triple 𝓤 (C #view·data) (Part 𝓤 H A mem run)) (known-shown : Triple 𝓤 (C #cases·shown) (Shown 𝓤 H A mem run)) where
+  module _ (C : Calls 𝓤 H) (Λ : Loops 𝓤 H) (fm : FmC 𝓤 H (W .laws) C) (known-show : Triple 𝓤 (C #view·show) (Show 𝓤 H A mem run)) (known-command : Triple 𝓤 (C #view·command) (Command 𝓤 H A mem run)) (known-part : Triple 𝓤 (C #view·data) (Part 𝓤 H A mem run)) (known-shown : Triple 𝓤 (C #framing·shown) (Shown 𝓤 H A mem run)) where
     walk : Is S s (v ∷ []) → ent 𝓤 (onEntry 𝓤 H A seen.signature (κ, tt) (q, tt) (s, tt) (v ∷ [], tt)) (WpFn 𝓤 H C Λ code.function (v ∷ []) Post)
     walk p =
         qed W (raw (onEntry 𝓤 H A seen.signature (κ, tt) (q, tt) (s, tt) (v ∷ [], tt)) ∷ []) ∵ enter ! C Λ code.function (v ∷ []) _ $
@@ -174,7 +174,7 @@ module _ {M : Type 1} (𝓤 : URA M) (H : Heap 𝓤) (A : Atoms 𝓤) (W : Given
         land ! (from ! (stop !)) (init ! 5 refl (shr-slice-lawful 𝓤 H A W erased κ u8 .typed d (u₃ ∷ []) is-d .0)) $
         use2 W (raw (Shown 𝓤 H A mem run .pre (to-shown c d u₂ u₃))) (goes-shown c d u₂ u₃ is-c) $
         calls-at ! fm (Shown 𝓤 H A mem run) known-shown (to-shown c d u₂ u₃) (and-then ! (load ! (from ! (stop !)) (look ! 8 refl)) (and-then ! (load ! (from ! (stop !)) (look ! 4 refl)) (no-more !))) (λ u₄.
-        use1 W (later (some (λ (t : Text). ((‵ (flft κ q) ⊛ ‵ ftrue) ⊛ ‵ (X.the-row .own t (u₄ ∷ []))) ⊛ raw (ensured 𝓤 H A shown.ended (shown.clauses 𝓤 H A mem run) (κ, tt) (c, (d, tt)) tt t)))) (id⊢ 𝓤 _) $ await ! tt $ pick ! (λ t.
+        use1 W (later (some (λ (t : Copied). ((‵ (flft κ q) ⊛ ‵ ftrue) ⊛ ‵ (X.the-row .own t (u₄ ∷ []))) ⊛ raw (ensured 𝓤 H A shown.ended (shown.clauses 𝓤 H A mem run) (κ, tt) (c, (d, tt)) tt t)))) (id⊢ 𝓤 _) $ await ! tt $ pick ! (λ t.
         split ! $ move ! (1 ∷ []) $ drop ! $ split ! $ move ! (1 ∷ []) $
         -- [the result; the token; what s owns; _6; …; _5; …; _4; …; _3; …; _2; …; _1; …; room for _0; …]
         peeks ! X.the-row (Is X.the-row) (shows 𝓤 H A X.the-row) t (u₄ ∷ []) (λ is-t.
@@ -184,13 +184,13 @@ module _ {M : Type 1} (𝓤 : URA M) (H : Heap 𝓤) (A : Atoms 𝓤) (W : Given
         by ! (exits t u₄))))))))))))))))))))
 
 module _ {M : Type 1} (𝓤 : URA M) (H : Heap 𝓤) (A : Atoms 𝓤) (W : Given 𝓤 H A) (mem : Memory → SProp 𝓤) (run : Routine → Fun 𝓤) where
-  seen-walks : (C : Calls 𝓤 H) (Λ : Loops 𝓤 H) → FmC 𝓤 H (W .laws) C → Triple 𝓤 (C #view·show) (Show 𝓤 H A mem run) → Triple 𝓤 (C #view·command) (Command 𝓤 H A mem run) → Triple 𝓤 (C #view·data) (Part 𝓤 H A mem run) → Triple 𝓤 (C #cases·shown) (Shown 𝓤 H A mem run)
+  seen-walks : (C : Calls 𝓤 H) (Λ : Loops 𝓤 H) → FmC 𝓤 H (W .laws) C → Triple 𝓤 (C #view·show) (Show 𝓤 H A mem run) → Triple 𝓤 (C #view·command) (Command 𝓤 H A mem run) → Triple 𝓤 (C #view·data) (Part 𝓤 H A mem run) → Triple 𝓤 (C #framing·shown) (Shown 𝓤 H A mem run)
       → Walks 𝓤 H A seen.ended stayed (WpFn 𝓤 H C Λ code.function) (seen.clauses 𝓤 H A mem run)
   seen-walks C Λ fm known-show known-command known-part known-shown = walked 𝓤 H A seen.ended stayed (seen.clauses 𝓤 H A mem run) (WpFn 𝓤 H C Λ code.function) (λ κs. (slice-vals, tt)) (λ κs. (shr-slice-tells (named 0) (κs .0) u8, tt))
       (λ κs qs bounds a g are. via 𝓤 _ (fst∗ 𝓤 _ (emp 𝓤)) (walk 𝓤 H A W mem run (κs .0) (qs .0) (a .0) C Λ fm known-show known-command known-part known-shown (are .0)))
 
 seen-meets : {M : Type 1} (𝓤 : URA M) (H : Heap 𝓤) (A : Atoms 𝓤) (W : Given 𝓤 H A) (mem : Memory → SProp 𝓤) (run : Routine → Fun 𝓤) (𝓣 : Tables 𝓤 H)
-    → Triple 𝓤 (𝓣 .C #view·show) (Show 𝓤 H A mem run) → Triple 𝓤 (𝓣 .C #view·command) (Command 𝓤 H A mem run) → Triple 𝓤 (𝓣 .C #view·data) (Part 𝓤 H A mem run) → Triple 𝓤 (𝓣 .C #cases·shown) (Shown 𝓤 H A mem run)
+    → Triple 𝓤 (𝓣 .C #view·show) (Show 𝓤 H A mem run) → Triple 𝓤 (𝓣 .C #view·command) (Command 𝓤 H A mem run) → Triple 𝓤 (𝓣 .C #view·data) (Part 𝓤 H A mem run) → Triple 𝓤 (𝓣 .C #framing·shown) (Shown 𝓤 H A mem run)
     → Meets 𝓤 H A seen.signature (WpFn 𝓤 H (𝓣 .C) (𝓣 .Λ) code.function) (seen.spec 𝓤 H A mem run)
 seen-meets 𝓤 H A W mem run 𝓣 known-show known-command known-part known-shown = walk-meets 𝓤 H A seen.ended stayed W (goes-none-slice 𝓤 H A W 1 (0 ∷ []) tt (plain (λ _. u8)) yes, tt) (seen.clauses 𝓤 H A mem run) (WpFn 𝓤 H (𝓣 .C) (𝓣 .Λ) code.function) (WpFn-mono 𝓤 H (W .laws) 𝓣 code.function)
     (seen-walks 𝓤 H A W mem run (𝓣 .C) (𝓣 .Λ) (fmOf 𝓤 H (W .laws) 𝓣) known-show known-command known-part known-shown)
@@ -199,9 +199,9 @@ pub seen-spec : {M : Type 1} → stated.statement M
 unfolding code.routine tablesOf
 seen-spec 𝓤 H 𝓜 𝓖 𝓡 =
     entered 𝓤 H (tripleOf 𝓤 H (𝓖 .A) seen.signature (seen.spec 𝓤 H (𝓖 .A) (𝓜 .mem) (𝓡 .run)))
-    (tables 𝓤 H 𝓜 𝓡 code.env .C) (tables 𝓤 H 𝓜 𝓡 code.env .Λ) #cases·seen code.function (code.unfolded 𝓤 H 𝓜 𝓡)
+    (tables 𝓤 H 𝓜 𝓡 code.env .C) (tables 𝓤 H 𝓜 𝓡 code.env .Λ) #framing·seen code.function (code.unfolded 𝓤 H 𝓜 𝓡)
     (seen-meets 𝓤 H (𝓖 .A) (givenOf 𝓤 H 𝓜 𝓖) (𝓜 .mem) (𝓡 .run) (tablesOf 𝓤 H 𝓜 (tables 𝓤 H 𝓜 𝓡 code.env))
     (cited 𝓤 H (Show 𝓤 H (𝓖 .A) (𝓜 .mem) (𝓡 .run)) 𝓜 𝓡 code.env #view·show show-def.routine code.calls-view·show (show-thm.met 𝓤 H 𝓜 𝓖 𝓡))
     (cited 𝓤 H (Command 𝓤 H (𝓖 .A) (𝓜 .mem) (𝓡 .run)) 𝓜 𝓡 code.env #view·command command-def.routine code.calls-view·command (command-thm.met 𝓤 H 𝓜 𝓖 𝓡))
     (cited 𝓤 H (Part 𝓤 H (𝓖 .A) (𝓜 .mem) (𝓡 .run)) 𝓜 𝓡 code.env #view·data part-def.routine code.calls-view·data (part-thm.met 𝓤 H 𝓜 𝓖 𝓡))
-    (cited 𝓤 H (Shown 𝓤 H (𝓖 .A) (𝓜 .mem) (𝓡 .run)) 𝓜 𝓡 code.env #cases·shown shown-def.routine code.calls-cases·shown (shown-thm.met 𝓤 H 𝓜 𝓖 𝓡)))
+    (cited 𝓤 H (Shown 𝓤 H (𝓖 .A) (𝓜 .mem) (𝓡 .run)) 𝓜 𝓡 code.env #framing·shown shown-def.routine code.calls-framing·shown (shown-thm.met 𝓤 H 𝓜 𝓖 𝓡)))

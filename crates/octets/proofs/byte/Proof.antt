@@ -1,8 +1,8 @@
 use mathlib.Core.Path.{sym}
 use lib.ListN.{List·getD-eq-default}
 use borrow.Author.Needs.{needs}
-use Rattle.asked.proofs.byte.Statement.{statement}
-use Rattle.asked.proofs.byte.Tie as tie
+use Rattle.octets.proofs.byte.Statement.{statement}
+use Rattle.octets.proofs.byte.Tie as tie
 
 returns : tie.Need-returns
 returns c = sym (List·getD-eq-default (c .before .args .bytes .now) 0 {n = c .before .args .place} (c .if1 .taken))

@@ -1,0 +1,225 @@
+// Boundary cases of frames, run and held to the file stdout: the frame writer at its limits, each frame that it writes read back;
+// packets through their view.
+use frame::Written;
+use frame::WrittenAt;
+use libc::STDOUT_FILENO;
+
+// What a view shows, copied.
+struct Copied {
+    command: u16,
+    data: [u8; 250],
+    len: usize,
+}
+
+// A text longer than this is cut off.
+const PAGE: usize = 2048;
+
+// What stands in a room before it is written.
+const FILLER: u8 = 0xA5;
+
+const NONE: [u8; 0] = [];
+
+const GAP: [u8; 1] = *b" ";
+
+const COLON: [u8; 1] = *b":";
+
+const LINE_END: [u8; 1] = *b"\n";
+
+const PACKET: [u8; 8] = *b" packet ";
+
+const DATA: [u8; 6] = *b" data ";
+
+const WRITES: [u8; 8] = *b" writes ";
+
+const UP_TO: [u8; 7] = *b" up to ";
+
+const NO_FIT: [u8; 13] = *b" does not fit";
+
+const LONG_DATA: [u8; 14] = *b" data too long";
+
+const FROM: [u8; 14] = *b"room 13, from ";
+
+const ROOM: [u8; 7] = *b", room ";
+
+const SHOWS: [u8; 7] = *b" shows ";
+
+const SPILLED: [u8; 8] = *b"spilled\n";
+
+fn print(page: &[u8], end: usize) {
+    if end <= page.len() {
+        io::write_all(STDOUT_FILENO, &page[0..end]);
+    }
+}
+
+// The first n bytes of the room, whether the bytes behind them are as they lay, and what reading them gives.
+fn put_written(out: &mut [u8], at: usize, room: &[u8], n: usize) -> usize {
+    if room.len() < n {
+        return at;
+    }
+    let wire = hexes::bytes_line(out, at, &WRITES, n as u64, &GAP, &room[0..n], &LINE_END);
+    let told = put_spilled(out, wire, room, n);
+    let answer = reader::read(reader::emptied(), &room[0..n]);
+    let outcome = answer.outcome;
+    listed::outcome_line(out, told, outcome)
+}
+
+fn put_spilled(out: &mut [u8], at: usize, room: &[u8], n: usize) -> usize {
+    if report::spilled(room, n, FILLER) {
+        return words::append(out, at, &SPILLED);
+    }
+    at
+}
+
+fn put_answer(out: &mut [u8], at: usize, answer: Written, room: &[u8]) -> usize {
+    match answer {
+        Written::Length(n) => put_written(out, at, room, n),
+        Written::ShortRoom => put_refused(out, at, 9, room),
+        Written::LongData => put_refused(out, at, 10, room),
+    }
+}
+
+fn put_refused(out: &mut [u8], at: usize, number: u8, room: &[u8]) -> usize {
+    let gap = words::append(out, at, &GAP);
+    report::refused_line(out, gap, number, report::spilled(room, 0, FILLER))
+}
+
+// A frame with n times the same data byte, written into a room.
+fn show_frame(name: &[u8], room: &mut [u8], command: u16, b: u8, n: usize) {
+    let payload = [b; 251];
+    if 251 < n {
+        return;
+    }
+    let mut page = [0u8; PAGE];
+    let answer = writer::write(room, command, &payload[0..n]);
+    io::write_all(STDOUT_FILENO, name);
+    let end = put_answer(&mut page, 0, answer, room);
+    print(&page, end);
+}
+
+fn show_right_room(name: &[u8], command: u16, b: u8, n: usize) {
+    let mut room = [FILLER; 512];
+    show_frame(name, &mut room, command, b, n);
+}
+
+fn show_short_room(name: &[u8], n: usize) {
+    let mut room = [FILLER; 511];
+    show_frame(name, &mut room, 0x0206, 0x55, n);
+}
+
+fn put_place(out: &mut [u8], at: usize, answer: WrittenAt) -> usize {
+    match answer {
+        WrittenAt::UpTo(k) => numbered::append_numbered(out, at, &UP_TO, k as u64, &NONE),
+        WrittenAt::NoFit => words::append(out, at, &NO_FIT),
+        WrittenAt::LongData => words::append(out, at, &LONG_DATA),
+    }
+}
+
+// n times ESC as data, written from a place on into 13 bytes.
+fn show_at(start: usize, n: usize) {
+    let payload = [line::ESC; 251];
+    let mut room = [FILLER; 13];
+    if 251 < n {
+        return;
+    }
+    let mut page = [0u8; PAGE];
+    let answer = writer::write_at(&mut room, start, 0x0102, &payload[0..n]);
+    let from = numbered::append_numbered(&mut page, 0, &FROM, start as u64, &DATA);
+    let data = numbered::append_numbered(&mut page, from, &NONE, n as u64, &COLON);
+    let told = put_place(&mut page, data, answer);
+    let end = hexes::bytes_line(&mut page, told, &ROOM, 13, &GAP, &room, &LINE_END);
+    print(&page, end);
+}
+
+fn show_frames() {
+    show_right_room(b"P3", 0x0001, 0, 0);
+    show_right_room(b"data C0 C0", 0x0206, 0xC0, 2);
+    show_right_room(b"data DB DB", 0x0206, 0xDB, 2);
+    show_right_room(b"check byte C0", 0x0206, 0xC0, 1);
+    show_right_room(b"check byte DB", 0x0206, 0xDB, 1);
+}
+
+fn show_more_frames() {
+    show_right_room(b"command C0DB", 0xC0DB, 0, 0);
+    show_right_room(b"length byte C0", 0x0206, 0x55, 189);
+    show_right_room(b"length byte DB", 0x0206, 0x55, 216);
+    show_right_room(b"250 data bytes", 0xFFFF, 0x55, 250);
+    show_right_room(b"251 data bytes", 0x0206, 0x55, 251);
+}
+
+fn show_limits() {
+    show_short_room(b"room 511, no data", 0);
+    show_short_room(b"room 511, 251 data bytes", 251);
+    show_at(4, 1);
+    show_at(5, 1);
+    show_at(13, 0);
+    show_at(14, 0);
+    show_at(18446744073709551615, 0);
+    show_at(0, 251);
+}
+
+// What the view of a packet shows.
+fn seen(packet: &[u8]) -> Copied {
+    let v = view::show(packet);
+    shown(view::command(v), view::data(v))
+}
+
+fn shown(command: u16, payload: &[u8]) -> Copied {
+    let mut data = [0u8; 250];
+    store::copy(&mut data, 0, payload);
+    let len = payload.len();
+    Copied { command, data, len }
+}
+
+// A packet, and what its view shows.
+fn show_view(name: &[u8], packet: &[u8]) {
+    let mut page = [0u8; PAGE];
+    let seen = seen(packet);
+    let data = seen.data;
+    let len = seen.len;
+    if 250 < len {
+        return;
+    }
+    let title = words::append(&mut page, 0, name);
+    let shows = hexes::bytes_line(
+        &mut page,
+        title,
+        &PACKET,
+        packet.len() as u64,
+        &GAP,
+        packet,
+        &SHOWS,
+    );
+    let end = hexes::bytes_line(
+        &mut page,
+        shows,
+        &NONE,
+        seen.command as u64,
+        &DATA,
+        &data[0..len],
+        &LINE_END,
+    );
+    print(&page, end);
+}
+
+fn show_views() {
+    show_view(b"P3", b"\x00\x03\x00\x01\x02");
+    show_view(b"P4", b"\x00\x05\x02\x06\xC0\x00\xC1");
+    show_view(b"P5", b"\x00\x05\x02\x06\xC1\x00\xC0");
+    show_view(b"P6", b"\x00\x05\x02\x06\xDB\x00\xDA");
+}
+
+// Refused packets.
+fn show_empty_views() {
+    show_view(b"P8", b"\x00\x03\x00\x03");
+    show_view(b"P9", b"\x01\x03\x00\x01\x03");
+    show_view(b"P10", b"\x00\x04\x00\x01\x05");
+    show_view(b"P11", b"\x00\x03\x00\x01\x03");
+}
+
+fn main() {
+    show_frames();
+    show_more_frames();
+    show_limits();
+    show_views();
+    show_empty_views();
+}
