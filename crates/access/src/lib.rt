@@ -1,5 +1,6 @@
 // The hub's state: password enter and change, and the sessions put back (document 01, "What the commands do").
-// Answers and hubs are the definition's: crate rules, specs/Hub.antt. It stands on the hub's rules and the lines' logins.
+// Answers and hubs are the definition's: crate rules, specs/Hub.antt. It stands on the hub's rules, the lines' logins and
+// lent bytes, compared and stored.
 ghost use mathlib.Core.Path.{_≡_};
 ghost use Rattle.rules.specs.Hub.{enter, change, withSlots};
 ghost use Rattle.access.specs.Answers.{Enters};

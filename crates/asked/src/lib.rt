@@ -1,5 +1,6 @@
 // What a mode send asks for: its data (document 01, mode send).
-// They are the definition's: crate sessions, specs/Sessions.antt: modeSendOf. It stands on the sessions' rules, single bytes and the store.
+// They are the definition's: crate sessions, specs/Sessions.antt: modeSendOf.
+// It stands on the sessions' rules, single bytes and the store.
 ghost use mathlib.Core.Path.{_≡_};
 ghost use Rattle.sessions.specs.Sessions.{modeSendOf};
 use sessions::ModeSend;

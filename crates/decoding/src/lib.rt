@@ -1,5 +1,6 @@
 // Bytes in hexadecimal digits, as a script has them.
-// Every answer is the definition's: crate script, specs/Script.antt, specs/Answers.antt. It stands on the script's words and the store.
+// Every answer is the definition's: crate script, specs/Script.antt, specs/Answers.antt. It stands on the script's numbers, bytes compared
+// and the store.
 ghost use Prim.Native.Nat.{_+_, _*_, _≤_, _<_};
 ghost use mathlib.Core.Path.{_≡_};
 ghost use mathlib.Core.Bool.{true};

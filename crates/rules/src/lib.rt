@@ -1,6 +1,6 @@
 // The hub's rules: what each request and host call does, and feed (document 01). The demands are proved of them in `demands`.
 // It has no code. The hub's state is declared here, its rules are defined in specs/Hub.antt.
-// It stands on what the frame layer, the directory, the node table and the sessions state.
+// It stands on what the frame layer, the directory, the node table and the sessions state, and on bytes compared.
 use sessions::Slot;
 
 // Serial lines, and the bytes of a password.

@@ -1,4 +1,4 @@
-// The words of a script, and the numbers among them.
+// The numbers among the words of a script, and bytes in a range.
 // Every answer is the definition's: crate script, specs/Script.antt, specs/Answers.antt. It stands on the format's definitions.
 ghost use Prim.Native.Nat.{_≤_};
 ghost use mathlib.Core.Path.{_≡_};

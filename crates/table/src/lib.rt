@@ -1,5 +1,6 @@
 // The node table: which nodes are in use, and removal, in lent memory (document 01, "What the commands do").
-// Every byte of the table is the definition's: crate nodes, specs/Table.antt. It stands on the table's rules, single bytes and the store's runs of bytes.
+// Every byte of the table is the definition's: crate nodes, specs/Table.antt.
+// It stands on the table's rules, single bytes and the store's runs of bytes.
 ghost use Prim.Native.Nat.{_<_};
 ghost use mathlib.Core.Path.{_≡_};
 ghost use Rattle.nodes.specs.Table.{nodeCount, inUse, bit, isRemoved, removeOne, remove};
