@@ -1,7 +1,9 @@
 -- What the hub's calls answer, by document 01's numbers.
 use Prim.Native.Nat.{ℕ, _≤_}
+use mathlib.Core.Path.{_≡_}
 use mathlib.Core.List.{List}
 use mathlib.Core.Option.{Option, none, some}
+use lib.ListN.{length}
 use Rattle.line.specs.declared.Reading.{Reading}
 use Rattle.frame.specs.Line.{limit, Clear}
 use Rattle.frame.specs.Answers as outcome
@@ -66,14 +68,15 @@ fedOf r t room = record { hub = r .hub; table = t; reading = r .reading; answer 
 abbrev pub refusedFeed : Hub → Reading → Refusal → Fed
 refusedFeed h r why = record { answer = feed.Refused why; hub = h; reading = r }
 
--- a record that a call gives back claims no more than 255 bytes, and none while it skips; one of a refused call lies as it was lent
+-- a record that a call gives back has its 255 places, claims no more bytes, and none while it skips; one of a refused call lies as it was lent
 abbrev pub Bounded : Reading → Type 0
-Bounded r = (r .count ≤ limit) × Clear (r .mode) (r .count)
+Bounded r = (length (r .bytes) ≡ limit) × (r .count ≤ limit) × Clear (r .mode) (r .count)
 
 abbrev pub BoundedClosed : CallAnswer → Reading → Type 0
 BoundedClosed call.Done r = Bounded r
 BoundedClosed (call.Refused why) r = Unit {0}
 
+-- and the data of a frame that is told lie within them
 abbrev pub BoundedFed : FeedAnswer → Reading → Type 0
-BoundedFed (feed.Told used o len) r = Bounded r
+BoundedFed (feed.Told used o len) r = Bounded r × outcome.Within o
 BoundedFed (feed.Refused why) r = Unit {0}

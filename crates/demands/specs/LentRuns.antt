@@ -1,12 +1,12 @@
 -- Every list of feeds, and of calls, can be made on lent records: the promises of the lent feed and close can be kept, whatever is lent.
-use Prim.Native.Nat.{ℕ, zero, suc, _≤_}
+use Prim.Native.Nat.{ℕ, zero, suc, _+_, _-_, _≤_}
 use mathlib.Core.Path.{_≡_, refl, sym, ap, _∙_}
 use mathlib.Core.Bool.{Bool, true, false, not}
 use mathlib.Core.List.{List, [], _∷_, _++_}
 use mathlib.Core.Option.{Option, none, some}
 use native.Mathlib.Omega.{arith}
-use lib.ListN.{length, drop}
-use lib.Seq.{take-length}
+use lib.ListN.{length, drop, replicate, length-append, length-replicate}
+use lib.Seq.{take-append-seam}
 use lib.Dec.{ltb, eqb}
 use Rattle.line.specs.declared.Reading.{Reading}
 use Rattle.line.specs.declared.Mode.the-variants.{Plain}
@@ -14,11 +14,11 @@ use Rattle.frame.specs.declared.Refusal.{Refusal as Cause}
 use Rattle.frame.specs.declared.Refusal.the-variants as cause
 use Rattle.frame.specs.declared.Outcome.{Outcome as Given}
 use Rattle.frame.specs.declared.Outcome.the-variants as given
-use Rattle.frame.specs.Frame.{Outcome, frame, refused, refusal}
+use Rattle.frame.specs.Frame.{Outcome, frame, refused, refusal, head}
 use Rattle.frame.specs.Answers as answers
 use Rattle.frame.specs.Line.{limit, recordOf, taken-held, taken-record, record-bounded}
 use Rattle.frame.specs.Reading.{State, emptiedReading, held, taken, read}
-use Rattle.frame.specs.ReadingLaws.{closed-number, read-told, read-held}
+use Rattle.frame.specs.ReadingLaws.{closed-number, read-told, read-held, read-data}
 use Rattle.feeds.specs.System as system
 use Rattle.feeds.specs.System.{Called, call, settled, serveIf}
 use Rattle.feeds.specs.Service.{Lent, recordFor, leftBy}
@@ -58,29 +58,35 @@ record Held (o : Option Outcome) (s : State) : Type 0 where
   told : answers.told outcome (reading .bytes) ≡ o
   state : taken reading ≡ s
   bounded : Bounded reading
+  within : answers.Within outcome
 
 -- the outcome of a call of the reader, begun in a state with no more than 255 bytes held
 held-outcome : (s : State) (w : List ℕ) → length (held s) ≤ limit → (o : Option Outcome) → read s w .outcome ≡ o → Held o (read s w .after)
 held-outcome s w x none e =
     let y = read-held s w x in
-    record { outcome = given.Nothing; reading = recordOf (read s w .after); told = refl; state = taken-record (read s w .after) y; bounded = record-bounded (read s w .after) y }
-held-outcome s w x (some (frame c d)) e = record {
-  outcome = given.Frame c (length d);
-  reading = record { bytes = 0 ∷ 0 ∷ 0 ∷ 0 ∷ d; count = 0; mode = Plain };
-  told = rw take-length;
-  state = sym (read-resets s w (frame c d) e);
-  bounded = (omega arith, tt);
-}
+    record { outcome = given.Nothing; reading = recordOf (read s w .after); told = refl; state = taken-record (read s w .after) y; bounded = record-bounded (read s w .after) y; within = tt }
+held-outcome s w x (some (frame c d)) e =
+    let n = read-data s w e in
+    let behind : List ℕ = replicate (limit - (head + length d)) 0 in
+    record {
+      outcome = given.Frame c (length d);
+      reading = record { bytes = 0 ∷ 0 ∷ 0 ∷ 0 ∷ d ++ behind; count = 0; mode = Plain };
+      told = rw (take-append-seam d behind);
+      state = sym (read-resets s w (frame c d) e);
+      bounded = (omega (arith, length-append d behind, length-replicate {A = ℕ} (limit - (head + length d)) 0), omega arith, tt);
+      within = n;
+    }
 held-outcome s w x (some (refused n)) e =
     let (t, y) = read-told s w (refused n) e in
     let (l, g) = closed-number t n y in
     let (c, z) = causeOf n l g in
     record {
       outcome = given.Refused c;
-      reading = record { bytes = []; count = 0; mode = Plain };
+      reading = emptiedReading;
       told = ap (λ (k : ℕ). some (refused k)) z;
       state = sym (read-resets s w (refused n) e);
-      bounded = (omega arith, tt);
+      bounded = (refl, omega arith, tt);
+      within = tt;
     }
 
 -- a feed's refusal is that of a cause
@@ -141,7 +147,7 @@ fed-any m g = go (feedRefusal (m .table) (g .line) (length (g .room))) refl
               room = ap (λ (w : Called hub). w .result .reply ++ drop (length (w .result .reply)) (g .room)) e;
               kept = λ k q. let z : _≡_ {A = ℕ} 0 1 = cc in absurd (omega arith);
             },
-            v .bounded,
+            (v .bounded, v .within),
           ),
         )
 
@@ -168,7 +174,7 @@ closed-any h r l = go (not (ltb l lineCount)) refl
       emptiedReading,
       (
         record { refusal = rw p; hub = rw p; state = rw p; kept = λ n q. let z : _≡_ {A = ℕ} 0 1 = cc in absurd (omega arith) },
-        (omega arith, tt),
+        (refl, omega arith, tt),
       ),
     )
 

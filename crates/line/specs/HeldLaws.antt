@@ -5,7 +5,7 @@ use mathlib.Core.Bool.{Bool, true, false, cond}
 use mathlib.Core.List.{List, [], _∷_, _++_}
 use mathlib.Core.Option.{Option, none, some}
 use native.Mathlib.Omega.{arith}
-use lib.ListN.{length, replicate, length-append}
+use lib.ListN.{length, replicate, length-append, length-replicate}
 use lib.Seq.{take-append-seam}
 use lib.Dec.{ltb, eqb}
 use borrow.Author.Tests.{ltb-true, le-ltb}
@@ -34,12 +34,16 @@ taken-record (plain h) x = rw (le-ltb limit (length h) x, take-append-seam h (re
 taken-record (escaped h) x = rw (le-ltb limit (length h) x, take-append-seam h (replicate (limit - length h) 0))
 taken-record (skipping f) x = refl
 
--- It claims no more than 255 bytes, and none while it skips.
-pub record-bounded : (s : State) → length (held s) ≤ limit → (recordOf s .count ≤ limit) × Clear (recordOf s .mode) (recordOf s .count)
+-- It has 255 places, claims no more bytes, and none while it skips.
+padded-full : (h : List ℕ) → length h ≤ limit → length (h ++ replicate (limit - length h) 0) ≡ limit
+padded-full h x = omega (arith, length-append h (replicate (limit - length h) 0), length-replicate {A = ℕ} (limit - length h) 0)
+
+pub record-bounded : (s : State) → length (held s) ≤ limit
+    → (length (recordOf s .bytes) ≡ limit) × (recordOf s .count ≤ limit) × Clear (recordOf s .mode) (recordOf s .count)
 unfolding recordOf padded
-record-bounded (plain h) x = (x, tt)
-record-bounded (escaped h) x = (x, tt)
-record-bounded (skipping f) x = (x, refl)
+record-bounded (plain h) x = (padded-full h x, x, tt)
+record-bounded (escaped h) x = (padded-full h x, x, tt)
+record-bounded (skipping f) x = (padded-full [] x, x, refl)
 
 -- A byte more, and no more than 255 are held.
 decoded-held : (h : List ℕ) (b : ℕ) → length h ≤ limit → length (held (decoded h b)) ≤ limit

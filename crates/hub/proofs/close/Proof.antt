@@ -1,5 +1,6 @@
 use Rattle.hub.proofs.Laws.{close-wrong, close-done}
 use Rattle.frame.specs.Reading.{taken}
+use mathlib.Core.Path.{refl}
 use native.Mathlib.Omega.{arith}
 use borrow.Author.Needs.{needs}
 use Rattle.hub.proofs.close.Statement.{statement}
@@ -15,7 +16,7 @@ emptied-requires : tie.Need-emptied-requires
 emptied-requires c κs = search needs
 
 returns-2 : tie.Need-returns-2
-returns-2 c = rw (c .emptied .ensures, c .before .closed-line .ensures) (close-done _ _ _ (c .before .before .if1 .left), (omega arith, tt))
+returns-2 c = rw (c .emptied .ensures, c .before .closed-line .ensures) (close-done _ _ _ (c .before .before .if1 .left), (refl, omega arith, tt))
 
 pub close-spec : {M : Type 1} → statement M
 close-spec = tie.close (tie.spec returns closed-line-requires emptied-requires returns-2)

@@ -40,7 +40,7 @@ same-length-2 : tie.Need-same-length-2
 same-length-2 c = search needs
 
 returns-4 : tie.Need-returns-4
-returns-4 c = (served-promise _ _ _ _ _ _ (c .before .before .before .before .before .before .before .before .before .before .before .read .result) (c .before .before .before .before .before .serve .result) _ _ (not-refused (c .before .before .before .before .before .before .before .before .before .before .before .before .before .before .before .before .before .before .args .table .now) (c .before .before .before .before .before .before .before .before .before .before .before .before .before .before .before .before .before .before .args .line) (length (c .before .before .before .before .before .before .before .before .before .before .before .before .before .before .before .before .before .before .args .room .now)) (c .before .before .before .before .before .before .before .before .before .before .before .before .before .before .if1 .left) (omega (arith, c .before .before .before .before .before .before .before .before .before .before .before .before .before .if2 .left)) (c .before .before .before .before .before .before .before .before .before .before .before .before .if3 .left)) (c .before .before .before .before .before .before .before .before .before .before .before .read .ensures) (c .before .before .before .before .before .serve .ensures), (c .before .before .before .before .before .before .before .before .before .before .before .read .ensures .count-within, c .before .before .before .before .before .before .before .before .before .before .before .read .ensures .clear))
+returns-4 c = (served-promise _ _ _ _ _ _ (c .before .before .before .before .before .before .before .before .before .before .before .read .result) (c .before .before .before .before .before .serve .result) _ _ (not-refused (c .before .before .before .before .before .before .before .before .before .before .before .before .before .before .before .before .before .before .args .table .now) (c .before .before .before .before .before .before .before .before .before .before .before .before .before .before .before .before .before .before .args .line) (length (c .before .before .before .before .before .before .before .before .before .before .before .before .before .before .before .before .before .before .args .room .now)) (c .before .before .before .before .before .before .before .before .before .before .before .before .before .before .if1 .left) (omega (arith, c .before .before .before .before .before .before .before .before .before .before .before .before .before .if2 .left)) (c .before .before .before .before .before .before .before .before .before .before .before .before .if3 .left)) (c .before .before .before .before .before .before .before .before .before .before .before .read .ensures) (c .before .before .before .before .before .serve .ensures), ((c .before .before .before .before .before .before .before .before .before .before .before .read .ensures .full, c .before .before .before .before .before .before .before .before .before .before .before .read .ensures .count-within, c .before .before .before .before .before .before .before .before .before .before .before .read .ensures .clear), c .before .before .before .before .before .before .before .before .before .before .before .read .ensures .data-within))
 
 pub feed-spec : {M : Type 1} → statement M
 feed-spec =
