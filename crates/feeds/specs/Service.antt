@@ -54,7 +54,8 @@ module _ (H : System) where
   called h t r l bytes room = call H h t (taken r) l bytes (length room)
 
   -- The promise of feed, by what it is lent and what is got back: hub, table, record as taken, answer and reply are the call's, bytes behind
-  -- the reply stay, and a refused call leaves the record as it lies. Left to the program otherwise: the record's places beyond the bytes held.
+  -- the reply stay, and a refused call leaves the record as it lies. Left to the program otherwise: the array's places beyond the bytes held
+  -- and, where a frame is told, those outside its data.
   pub record Promise (h : H .Hub) (t : H .Table) (r : Reading) (l : ℕ) (bytes space : List ℕ) (o : Got H) : Type 0 where
     pub hub : o .hub ≡ called h t r l bytes space .hub
     pub table : o .table ≡ called h t r l bytes space .table

@@ -28,7 +28,7 @@ map-unmarked f (true ∷ ms) (a ∷ l) = map-unmarked f ms l
 map-unmarked f (false ∷ ms) (a ∷ l) = ap (λ z. f a ∷ z) (map-unmarked f ms l)
 
 -- The length told is the reply's.
-call-length : (H : System) (h : H .Hub) (t : H .Table) (s : State) (l : ℕ) (bytes : List ℕ) (room : ℕ)
+pub call-length : (H : System) (h : H .Hub) (t : H .Table) (s : State) (l : ℕ) (bytes : List ℕ) (room : ℕ)
     → lengthOf (call H h t s l bytes room .result .answer) ≡ length (call H h t s l bytes room .result .reply)
 unfolding lengthOf call decided settled
 call-length H h t s l bytes room = go (H .refusal h t s l bytes room)

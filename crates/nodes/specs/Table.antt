@@ -84,7 +84,8 @@ pub record Result : Type 0 where
   pub status : ℕ
   pub table : List ℕ
 
--- a node above 199 or not in use gives status 2; otherwise only the named field is overwritten, status 0
+-- a node above 199 or not in use gives status 2; otherwise only the named field is overwritten, status 0; what would lie behind the end
+-- of a table of another length, which the hub refuses before (refusal 7), is dropped
 unfoldable pub setField : Field → List ℕ → ℕ → List ℕ → Result
 setField f t n vs =
     cond (inUse t n)
@@ -170,5 +171,6 @@ emptied t = replicate (length t) 0
 unfoldable pub enrolledRecord : ℕ → List ℕ
 enrolledRecord type = (1 ∷ type / 256 ∷ type % 256 ∷ []) ++ replicate (recordSize - 3) 0
 
+-- what would lie behind the table's end is dropped here too
 abbrev pub enrolled : List ℕ → ℕ → ℕ → List ℕ
 enrolled t n type = withRecord t n (enrolledRecord type)

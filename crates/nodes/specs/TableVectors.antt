@@ -41,6 +41,11 @@ removed : remove (3 ∷ []) (with 7 5 9 4) ∷ remove (1 ∷ []) (with 7 5 9 4) 
 unfolding with removeBelow removeOne bit inUse
 removed = refl
 
+-- bits 200 to 207 remove nothing
+ignored : remove (replicate 25 0 ++ 255 ∷ []) (with 7 5 9 4) ≡ with 7 5 9 4
+unfolding with removeBelow removeOne bit inUse
+ignored = refl
+
 -- virgin state leaves no byte
 zeroed : emptied (replicate 216 9) ≡ replicate 216 0
 zeroed = refl

@@ -37,8 +37,9 @@ opened : modeSend (replicate slotCount closedSlot) nodes 0 (request 1 (5 ∷ [])
 unfolding nodes request busy modeSend isLegal targetsLegal inUse any first marked
 opened = refl
 
+-- all slots are taken, by sessions with node 5
 unfoldable full : List Slot
-full = replicate slotCount (sessionSlot 0 (request 1 []))
+full = replicate slotCount (sessionSlot 0 (request 1 (5 ∷ [])))
 
 unfoldable status : List Slot → ModeSend → ℕ
 status ss r = modeSend ss nodes 1 r .status
@@ -50,10 +51,15 @@ statuses : status busy (request 2 (20 ∷ [])) ∷ status busy (request 2 (7 ∷
 unfolding nodes request busy full status modeSend isLegal targetsLegal inUse any first marked
 statuses = refl
 
--- an open number comes before the lack of a slot; a session of the same line holds its nodes; the number in a free slot is not open
-firsts : status full (request 1 (7 ∷ [])) ∷ modeSend busy nodes 0 (request 2 (5 ∷ [])) .status ∷ status busy (request 0 (7 ∷ [])) ∷ [] ≡ 3 ∷ 1 ∷ 0 ∷ []
+-- the first that applies: 5 before 3, 3 before 4, 4 before 1
+firsts : status busy (request 1 (20 ∷ [])) ∷ status full (request 1 (7 ∷ [])) ∷ status full (request 2 (5 ∷ [])) ∷ [] ≡ 5 ∷ 3 ∷ 4 ∷ []
 unfolding nodes request busy full status modeSend isLegal targetsLegal inUse any first marked
 firsts = refl
+
+-- a session of the same line holds its nodes; the number in a free slot is not open
+held : modeSend busy nodes 0 (request 2 (5 ∷ [])) .status ∷ status busy (request 0 (7 ∷ [])) ∷ [] ≡ 1 ∷ 0 ∷ []
+unfolding nodes request busy status modeSend isLegal targetsLegal inUse any first marked
+held = refl
 
 -- two slots with the same number: finish closes the lowest, and tells its line
 unfoldable slot : ℕ → ℕ → Slot
@@ -67,6 +73,11 @@ finished = refl
 closed-line : closeLine 3 (slot 3 1 ∷ slot 2 2 ∷ []) ≡ closedSlot ∷ slot 2 2 ∷ []
 unfolding request slot marked
 closed-line = refl
+
+-- the lowest slot is freed and used again
+used-again : modeSend (closeLine 0 busy) nodes 3 (request 2 (7 ∷ [])) ≡ record { status = 0; slots = set busy 0 (sessionSlot 3 (request 2 (7 ∷ []))) }
+unfolding nodes request busy modeSend isLegal targetsLegal inUse any first marked
+used-again = refl
 
 -- node 7 is removed: of two sessions the one that has it closes, with its other node
 closed-removed : closeRemoved nodes (128 ∷ []) (sessionSlot 0 (request 1 (7 ∷ 5 ∷ [])) ∷ slot 0 2 ∷ []) ≡ closedSlot ∷ slot 0 2 ∷ []
