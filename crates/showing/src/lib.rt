@@ -3,10 +3,10 @@
 // It stands on the lines of `shows` and `slotline`, and on where `escape` takes up a reading.
 ghost use Prim.Native.Nat.{_<_};
 ghost use mathlib.Core.Path.{_≡_};
-ghost use mathlib.Core.List.{[]};
+ghost use mathlib.Core.List.{[], map};
 ghost use lib.ListN.{getD};
 ghost use Rattle.text.specs.Appended.{Leaves};
-ghost use Rattle.frame.specs.Reading.{skipping, at, emptiedReading};
+ghost use Rattle.frame.specs.Reading.{skipping, at, emptied, taken};
 ghost use Rattle.nodes.specs.Table.{nodeCount};
 ghost use Rattle.sessions.specs.Sessions.{slotCount, closedSlot};
 ghost use Rattle.rules.specs.Hub.{lineCount};
@@ -22,7 +22,7 @@ use sessions::Slot;
 
 // The logins, the open slots, the nodes, the reading records and the end.
 pub fn show(out: &mut [u8], at: usize, hub: Hub, table: &[u8], readings: [Reading; LINES]) -> usize
-    ensures { λ r. ⌜ Leaves (appendedAll (now (out .entry)) at (stateLines hub (now (table .entry)) readings)) (now (out .exit)) r ⌝ }
+    ensures { λ r. ⌜ Leaves (appendedAll (now (out .entry)) at (stateLines hub (now (table .entry)) (map taken readings))) (now (out .exit)) r ⌝ }
 {
     let logins = hub.logins;
     let slots = hub.slots;
@@ -94,7 +94,7 @@ fn show_record(out: &mut [u8], at: usize, node: u8, fields: &[u8]) -> usize
 }
 
 fn show_readings(out: &mut [u8], at: usize, readings: [Reading; LINES]) -> usize
-    ensures { λ r. ⌜ Leaves (appendedAll (now (out .entry)) at (linesBelow (λ k. readingLines k (getD readings k emptiedReading)) lineCount)) (now (out .exit)) r ⌝ }
+    ensures { λ r. ⌜ Leaves (appendedAll (now (out .entry)) at (linesBelow (λ k. readingLines k (getD (map taken readings) k emptied)) lineCount)) (now (out .exit)) r ⌝ }
 {
     let mut end = at;
     let mut k = 0;
@@ -107,7 +107,7 @@ fn show_readings(out: &mut [u8], at: usize, readings: [Reading; LINES]) -> usize
 
 // A reading is shown as its record is taken.
 fn show_reading(out: &mut [u8], at: usize, k: u8, reading: Reading) -> usize
-    ensures { λ r. ⌜ Leaves (appendedAll (now (out .entry)) at (readingLines k reading)) (now (out .exit)) r ⌝ }
+    ensures { λ r. ⌜ Leaves (appendedAll (now (out .entry)) at (readingLines k (taken reading))) (now (out .exit)) r ⌝ }
 {
     let bytes = reading.bytes;
     let place = escape::taken_at(escape::place_of(reading));

@@ -1,7 +1,10 @@
 pub mod Lines
 pub mod State
 pub mod Replies
+pub mod Playing
 pub mod LinesLaws
 pub mod StateLaws
+pub mod PlayingLaws
+pub mod PlayingVectors
 pub mod StateVectors
 pub mod RepliesVectors

@@ -1,9 +1,10 @@
 -- Lines appended: none, one, and some behind others.
 use Prim.Native.Nat.{ℕ, _+_, _<_}
 use mathlib.Core.Path.{_≡_, refl}
-use mathlib.Core.List.{List, [], _∷_, _++_}
+use mathlib.Core.List.{List, [], _∷_, _++_, map}
 use native.Mathlib.Numerals.{add-one}
-use lib.ListN.{length, getD}
+use native.Mathlib.Omega.{arith}
+use lib.ListN.{length, getD, length-map, List·getD-map}
 use Rattle.sessions.specs.ListLaws.{getD-there}
 use Rattle.text.specs.Appended.{appended, Leaves}
 use Rattle.transcript.specs.Lines.{appendedAll, linesBelow}
@@ -37,3 +38,9 @@ pub below-element : {A : Type 0} (l : List ℕ) (at : ℕ) (f : ℕ → A → Li
     → Leaves (appendedAll l at (linesBelow (λ i. f i (getD xs i e)) k)) m a → Leaves (appendedAll m a (f k (getD xs k d))) n b
     → Leaves (appendedAll l at (linesBelow (λ i. f i (getD xs i e)) (k + 1))) n b
 below-element l at f xs d e k h x y = below-more l at (λ i. f i (getD xs i e)) k x (rw (getD-there xs k d e h) at y)
+
+-- the same where a list is seen through a map
+pub below-mapped : {A B : Type 0} (g : A → B) (l : List ℕ) (at : ℕ) (f : ℕ → B → List (List ℕ)) (xs : List A) (d : A) (e : B) (k : ℕ) {m n : List ℕ} {a b : ℕ} → k < length xs
+    → Leaves (appendedAll l at (linesBelow (λ i. f i (getD (map g xs) i e)) k)) m a → Leaves (appendedAll m a (f k (g (getD xs k d)))) n b
+    → Leaves (appendedAll l at (linesBelow (λ i. f i (getD (map g xs) i e)) (k + 1))) n b
+below-mapped g l at f xs d e k h x y = below-element l at f (map g xs) (g d) e k (omega (arith, length-map xs g)) x (rw (List·getD-map g xs k d) y)

@@ -1,12 +1,11 @@
--- The state as `show` writes it: the lines of hub, table and reading records.
+-- The state as `show` writes it: the lines of hub, table and readings.
 use Prim.Native.Nat.{ℕ, _+_, _*_}
 use mathlib.Core.List.{List, [], _∷_, _++_}
 use mathlib.Core.Bool.{cond}
 use lib.ListN.{length, getD}
 use lib.Dec.{leb}
 use Rattle.line.specs.declared.Fault.the-variants as fault
-use Rattle.line.specs.declared.Reading.{Reading}
-use Rattle.frame.specs.Reading.{State, plain, escaped, skipping, held, taken, emptiedReading}
+use Rattle.frame.specs.Reading.{State, plain, escaped, skipping, emptied, held}
 use Rattle.nodes.specs.Table.{nodeCount, recordSize, recordOf}
 use Rattle.sessions.specs.declared.Slot.{Slot}
 use Rattle.sessions.specs.Sessions.{slotCount, closedSlot}
@@ -37,15 +36,15 @@ modeOf (escaped h) = mode.Escaped
 modeOf (skipping fault.WrongEscape) = mode.Skip1
 modeOf (skipping fault.TooLong) = mode.Skip2
 
--- a reading record, as it is taken
-unfoldable pub readingLines : ℕ → Reading → List (List ℕ)
-readingLines k r = readingLine k (modeOf (taken r)) (held (taken r)) ∷ []
+-- a reading, as its record is taken
+unfoldable pub readingLines : ℕ → State → List (List ℕ)
+readingLines k s = readingLine k (modeOf s) (held s) ∷ []
 
--- the logins, the open slots, the nodes, the reading records and the end
-unfoldable pub stateLines : Hub → List ℕ → List Reading → List (List ℕ)
-stateLines h t rs =
+-- the logins, the open slots, the nodes, the readings and the end
+unfoldable pub stateLines : Hub → List ℕ → List State → List (List ℕ)
+stateLines h t ss =
     (loginLine (h .logins) ∷ [])
     ++ linesBelow (λ k. slotLines k (getD (h .slots) k closedSlot)) slotCount
     ++ linesBelow (nodeLines t) nodeCount
-    ++ linesBelow (λ k. readingLines k (getD rs k emptiedReading)) lineCount
+    ++ linesBelow (λ k. readingLines k (getD ss k emptied)) lineCount
     ++ (endLine ∷ [])

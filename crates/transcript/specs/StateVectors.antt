@@ -1,12 +1,13 @@
 -- The state's lines at some states.
 use Prim.Native.Nat.{ℕ}
 use mathlib.Core.Path.{_≡_, refl}
-use mathlib.Core.List.{List, [], _∷_, _++_}
+use mathlib.Core.List.{List, [], _∷_, _++_, map}
 use mathlib.Core.Bool.{Bool, true, false}
 use lib.ListN.{set, replicate}
 use Rattle.line.specs.declared.Fault.the-variants as fault
 use Rattle.line.specs.declared.Mode.the-variants as mode
 use Rattle.line.specs.declared.Reading.{Reading}
+use Rattle.frame.specs.Reading.{taken}
 use Rattle.nodes.specs.Table.{recordSize}
 use Rattle.sessions.specs.declared.Slot.{Slot}
 use Rattle.sessions.specs.Sessions.{slotCount, closedSlot, targetCount}
@@ -42,7 +43,7 @@ readings =
 node : List ℕ
 node = ascii "node 1 01" ++ replicate 142 48 ++ ascii "\n"
 
-state : stateLines hub table readings
+state : stateLines hub table (map taken readings)
     ≡ ascii "login 0100\n"
     ∷ ascii "slot 2 01A2 3 7\n"
     ∷ node

@@ -8,10 +8,10 @@ use Rattle.replay.proofs.main.Tie as tie
 
 -- What is lent keeps its length, and an open line is held up to one byte more than the longest line has.
 abbrev Inv-loop : tie.InvT-loop
-Inv-loop table₀ text₀ out₀ run₀ turns₀ table text out run turns = (length table ≡ tableMost) × (length text ≡ longest + 65537) × (length out ≡ 65536) × (run .held ≤ longest + 1)
+Inv-loop table₀ text₀ out₀ run₀ held₀ turns₀ table text out run held turns = (length table ≡ tableMost) × (length text ≡ longest + 65537) × (length out ≡ 65536) × (held ≤ longest + 1)
 
 abbrev μ-loop : tie.MeasureT-loop
-μ-loop table₀ text₀ out₀ run₀ turns₀ table text out run turns = turns
+μ-loop table₀ text₀ out₀ run₀ held₀ turns₀ table text out run held turns = turns
 
 large-buffer-requires : tie.Need-large-buffer-requires Inv-loop μ-loop
 large-buffer-requires c κs = search needs

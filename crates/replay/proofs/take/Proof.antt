@@ -54,11 +54,11 @@ loop-less c = search needs
 loop-again : tie.Need-loop-again Inv-loop μ-loop
 loop-again c = search needs
 
-sub-placed : tie.Need-sub-placed Inv-loop μ-loop
-sub-placed c = search needs
+sub-progressed : tie.Need-sub-progressed Inv-loop μ-loop
+sub-progressed c = search needs
 
-placed-requires : tie.Need-placed-requires Inv-loop μ-loop
-placed-requires c κs = search needs
+progressed-requires : tie.Need-progressed-requires Inv-loop μ-loop
+progressed-requires c κs = search needs
 
 same-length-3 : tie.Need-same-length-3 Inv-loop μ-loop
 same-length-3 c = search needs
@@ -89,8 +89,8 @@ take-spec =
     line-end-requires-2
     loop-less
     loop-again
-    sub-placed
-    placed-requires
+    sub-progressed
+    progressed-requires
     same-length-3
     same-length-4
     returns-2)

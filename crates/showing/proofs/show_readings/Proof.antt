@@ -1,21 +1,22 @@
 use Prim.Native.Nat.{_-_, _≤_}
 use mathlib.Core.Path.{_≡_, refl}
 use native.Mathlib.Omega.{arith}
+use mathlib.Core.List.{map}
 use lib.ListN.{length, getD}
 use borrow.Author.Needs.{needs}
-use Rattle.frame.specs.Reading.{emptiedReading}
+use Rattle.frame.specs.Reading.{emptied, taken}
 use Rattle.rules.specs.Hub.{lineCount}
 use Rattle.transcript.specs.State.{readingLines}
 use Rattle.text.specs.Appended.{Leaves}
 use Rattle.transcript.specs.Lines.{appendedAll, linesBelow}
-use Rattle.transcript.specs.LinesLaws.{all-none, below-element}
+use Rattle.transcript.specs.LinesLaws.{all-none, below-mapped}
 use Rattle.showing.proofs.show_readings.Statement.{statement}
 use Rattle.showing.proofs.show_readings.Tie as tie
 
 -- The readings below the place are shown.
 abbrev Inv-loop : tie.InvT-loop
 Inv-loop out₀ at readings end₀ k₀ out end k =
-    (k ≤ lineCount) × (length out ≡ length out₀) × (length readings ≡ lineCount) × Leaves (appendedAll out₀ at (linesBelow (λ n. readingLines n (getD readings n emptiedReading)) k)) out end
+    (k ≤ lineCount) × (length out ≡ length out₀) × (length readings ≡ lineCount) × Leaves (appendedAll out₀ at (linesBelow (λ n. readingLines n (getD (map taken readings) n emptied)) k)) out end
 
 abbrev μ-loop : tie.MeasureT-loop
 μ-loop out₀ at readings end₀ k₀ out end k = lineCount - k
@@ -45,7 +46,7 @@ loop-less c = search needs
 loop-again : tie.Need-loop-again Inv-loop μ-loop
 loop-again c =
     let l = c .before .before .before .before .before .before .loop in
-    (omega arith, search needs, l .inv .2, below-element _ _ readingLines (c .before .before .before .before .before .before .before .before .args .t3) _ emptiedReading (l .k) (omega (arith, l .inv .2)) (l .inv .3) (c .before .before .show-reading .ensures))
+    (omega arith, search needs, l .inv .2, below-mapped taken _ _ readingLines (c .before .before .before .before .before .before .before .before .args .t3) _ emptied (l .k) (omega (arith, l .inv .2)) (l .inv .3) (c .before .before .show-reading .ensures))
 
 same-length : tie.Need-same-length Inv-loop μ-loop
 same-length c = c .before .loop .inv .1
