@@ -22,8 +22,9 @@ unfoldable pub loginLine : List Bool → List ℕ
 loginLine logins =
     ascii "login " ++ (flag (getD logins 0 false) ∷ flag (getD logins 1 false) ∷ flag (getD logins 2 false) ∷ flag (getD logins 3 false) ∷ []) ++ ascii "\n"
 
-abbrev pub nodeCount : ℕ
-nodeCount = 200
+-- a session's nodes are 0 to 199
+abbrev pub targetCount : ℕ
+targetCount = 200
 
 -- a node, where it is marked
 unfoldable pub nodeWord : ℕ → Bool → List ℕ
@@ -38,7 +39,7 @@ nodesBelow (suc n) nodes = nodesBelow n nodes ++ nodeWord n (getD nodes n false)
 -- an open slot: the session's number, its line and its nodes
 unfoldable pub slotLine : ℕ → ℕ → ℕ → List Bool → List ℕ
 slotLine slot session line nodes =
-    ascii "slot " ++ decimal slot ++ ascii " " ++ hex4 session ++ ascii " " ++ decimal line ++ nodesBelow nodeCount nodes ++ ascii "\n"
+    ascii "slot " ++ decimal slot ++ ascii " " ++ hex4 session ++ ascii " " ++ decimal line ++ nodesBelow targetCount nodes ++ ascii "\n"
 
 -- a node's record
 unfoldable pub nodeLine : ℕ → List ℕ → List ℕ

@@ -5,7 +5,7 @@ use mathlib.Core.Bool.{Bool, true, false}
 use lib.ListN.{set, replicate}
 use Rattle.text.specs.Text.{ascii, digit, decimalIn, decimal}
 use Rattle.answers.specs.Bytes.{hexPairs, bytesWord}
-use Rattle.answers.specs.Shows.{flag, loginLine, nodeCount, nodeWord, nodesBelow, slotLine, nodeLine, modeWord, readingLine, endLine}
+use Rattle.answers.specs.Shows.{flag, loginLine, targetCount, nodeWord, nodesBelow, slotLine, nodeLine, modeWord, readingLine, endLine}
 use Rattle.answers.specs.declared.Mode.the-variants as mode
 
 login-some : loginLine (true ∷ false ∷ false ∷ true ∷ []) ≡ ascii "login 1001\n"
@@ -18,13 +18,13 @@ login-second = refl
 
 -- the first node, the last and one between
 abbrev marks : List Bool
-marks = set (set (set (replicate nodeCount false) 7 true) 199 true) 0 true
+marks = set (set (set (replicate targetCount false) 7 true) 199 true) 0 true
 
 slot-nodes : slotLine 7 0x01A2 3 marks ≡ ascii "slot 7 01A2 3 0 7 199\n"
 unfolding ascii digit decimalIn decimal nodeWord nodesBelow slotLine
 slot-nodes = refl
 
-slot-none : slotLine 0 0xFFFF 1 (replicate nodeCount false) ≡ ascii "slot 0 FFFF 1\n"
+slot-none : slotLine 0 0xFFFF 1 (replicate targetCount false) ≡ ascii "slot 0 FFFF 1\n"
 unfolding ascii digit decimalIn decimal nodeWord nodesBelow slotLine
 slot-none = refl
 

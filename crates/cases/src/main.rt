@@ -270,8 +270,8 @@ fn show_counts(wire: &[u8]) {
 fn show_fed(mode: Mode, count: usize) {
     let bytes = [0x55u8; line::LIMIT];
     let reading = Reading { bytes, count, mode };
-    let mut table = [0u8; 14400];
-    let mut room = [answering::FILLER; 512];
+    let mut table = [0u8; nodes::TABLE];
+    let mut room = [answering::FILLER; frame::ROOM];
     let wire = b"\x00\x03\x00\x01\x02\xC0";
     let fed = lending::feed(host::first(), &mut table, reading, 0, wire, &mut room);
     show_told(mode, count, fed, &room);

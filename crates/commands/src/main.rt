@@ -1,5 +1,5 @@
 // Writes the command directory, a line for each entry: number, least and greatest data length.
-// It stops where the output is not taken. The lines are made by a proved function of `lines`.
+// It stops where the output is not taken. The lines are made by a proved function of `entries`.
 use directory::Entry;
 use directory::Found;
 use libc::STDOUT_FILENO;

@@ -7,7 +7,7 @@ use libc::STDOUT_FILENO;
 // What a view shows, copied.
 struct Copied {
     command: u16,
-    data: [u8; 250],
+    data: [u8; frame::DATA],
     len: usize,
 }
 
@@ -97,7 +97,7 @@ fn show_frame(name: &[u8], room: &mut [u8], command: u16, b: u8, n: usize) {
 }
 
 fn show_right_room(name: &[u8], command: u16, b: u8, n: usize) {
-    let mut room = [FILLER; 512];
+    let mut room = [FILLER; frame::ROOM];
     show_frame(name, &mut room, command, b, n);
 }
 
@@ -164,7 +164,7 @@ fn seen(packet: &[u8]) -> Copied {
 }
 
 fn shown(command: u16, payload: &[u8]) -> Copied {
-    let mut data = [0u8; 250];
+    let mut data = [0u8; frame::DATA];
     store::copy(&mut data, 0, payload);
     let len = payload.len();
     Copied { command, data, len }
@@ -176,7 +176,7 @@ fn show_view(name: &[u8], packet: &[u8]) {
     let seen = seen(packet);
     let data = seen.data;
     let len = seen.len;
-    if 250 < len {
+    if frame::DATA < len {
         return;
     }
     let title = words::append(&mut page, 0, name);

@@ -4,7 +4,7 @@
 ghost use mathlib.Core.Path.{_≡_};
 ghost use Rattle.script.specs.Script.{tableOf, startOf, enrolOf, feedOf, closeOf, finishOf, showOf, called, parse};
 ghost use Rattle.script.specs.Answers.{Tells};
-ghost use Rattle.script.specs.Code.{wordEnd, wordsFrom, lastNumber, told, Numbered, Spelled};
+ghost use Rattle.script.specs.Code.{wordEnd, wordsFrom, lastNumber, told, Numbered, BytesAt};
 use script::Call;
 use script::Number;
 use script::Taken;
@@ -12,10 +12,8 @@ use script::Taken;
 // No line has more bytes.
 pub const LONGEST: usize = 40000;
 
-// TABLE: the whole buffer, and what is lent without the word.
+// TABLE: the whole buffer. Without the word the hub's table is lent.
 pub const TABLE_MOST: usize = 16384;
-
-pub const TABLE_RIGHT: usize = 14400;
 
 pub const ROOM_MOST: usize = 1024;
 
@@ -218,7 +216,7 @@ fn number_at(line: &[u8], from: usize, most: usize) -> Taken
 
 // The word of bytes at `from`.
 fn bytes_at(line: &[u8], from: usize) -> Taken
-    ensures { λ r. ⌜ Spelled (now (line .entry)) from r ⌝ }
+    ensures { λ r. ⌜ BytesAt (now (line .entry)) from r ⌝ }
 {
     if line.len() < from {
         return Taken::Nothing;
@@ -252,7 +250,7 @@ fn table_at(line: &[u8], from: usize) -> Number
     ensures { λ r. ⌜ told r ≡ tableOf (wordsFrom (now (line .entry)) from) ⌝ }
 {
     if line.len() < from {
-        return Number::Value(TABLE_RIGHT);
+        return Number::Value(nodes::TABLE);
     }
     last_number(line, from, TABLE_MOST)
 }

@@ -18,7 +18,8 @@ worldOf r t = record { hub = r .hub; table = t; states = map taken (r .readings)
 abbrev pub firstRun : Run
 firstRun = record { hub = firstHub; readings = replicate lineCount emptiedReading; at = 0 }
 
--- the world after a line is the definition's, and its lines are appended to the output, each whole or not at all
+-- the world after a line is the definition's, and its lines are appended to the output, each whole or not at all. Left to the program: how a
+-- record lies that is taken as the definition's state
 pub record Plays (x : Played) (before : List ℕ) (at : ℕ) (r : Run) (table after : List ℕ) : Type 0 where
   pub world : worldOf r table ≡ x .world
   pub text : Leaves (appendedAll before at (x .lines)) after (r .at)

@@ -38,7 +38,8 @@ Within l (Finish session room) = room ≤ roomMost
 Within l Show = Unit {0}
 Within l Bad = Unit {0}
 
--- the promise of `parse`: the answer to a line tells the definition's call, `called`
+-- the promise of `parse`: the answer to a line tells the definition's call, `called`. Left to the program: at which of several parts of the line
+-- with the same digits it points
 pub record Tells (l : List ℕ) (called : Option Call) (r : answer.Call) : Type 0 where
   pub call : meaning l r ≡ called
   pub within : Within l r

@@ -1,6 +1,6 @@
 -- Digits one by one: numbers, and words of bytes.
 use Prim.Native.Nat.{ℕ, zero, suc, _+_, _*_, _-_, _/_, _≤_, _<_}
-use mathlib.Core.Path.{_≡_, refl, ap}
+use mathlib.Core.Path.{_≡_, refl}
 use mathlib.Core.List.{List, [], _∷_}
 use mathlib.Core.Bool.{Bool, true, false, cond, not, _&&_}
 use mathlib.Core.Option.{Option, none, some, Option·getD, Option·none-ne-some, Option·some-injective}
@@ -9,9 +9,8 @@ use native.Mathlib.Numerals.{add-one}
 use native.Mathlib.Omega.{arith}
 use lib.ListN.{length, getD, drop, drop-of-length-le}
 use lib.Seq.{drop-cons}
-use lib.Dec.{leb, ltb, eqb}
+use lib.Dec.{leb, ltb}
 use borrow.Author.Tests.{leb-true, ltb-true, le-leb, lt-leb}
-use Rattle.octets.specs.Octets.{same}
 use Rattle.octets.specs.OctetsLaws.{same-lengths}
 use Rattle.text.specs.Text.{ascii}
 use Rattle.script.specs.Script.{between, digitsFrom, digitsMost, leadingZero, isPlain, number, kept, numberUpTo, hexValue, allHex, isEven, isBytes, pairs, bytes}

@@ -52,7 +52,7 @@ Numbered l from most (taken.Word value next) =
 Numbered l from most taken.Nothing = numberUpTo most (first (wordsFrom l from)) ≡ none
 
 -- the word of bytes at a place, within the line
-abbrev pub Spelled : List ℕ → ℕ → Taken → Type 0
-Spelled l from (taken.Word len next) =
+abbrev pub BytesAt : List ℕ → ℕ → Taken → Type 0
+BytesAt l from (taken.Word len next) =
     (isBytes (first (wordsFrom l from)) ≡ true) × (rest (wordsFrom l from) ≡ wordsFrom l next) × (take len (drop from l) ≡ first (wordsFrom l from)) × (from + len ≤ length l)
-Spelled l from taken.Nothing = isBytes (first (wordsFrom l from)) ≡ false
+BytesAt l from taken.Nothing = isBytes (first (wordsFrom l from)) ≡ false

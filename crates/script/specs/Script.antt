@@ -1,11 +1,12 @@
 -- A line of the script and the call that it stands for. A line is the bytes between two LFs, and `none` is a bad line.
 use Prim.Native.Nat.{ℕ, _+_, _*_, _-_, _%_}
 use mathlib.Core.List.{List, [], _∷_}
-use mathlib.Core.Bool.{Bool, true, false, cond, not, _&&_, _||_}
+use mathlib.Core.Bool.{Bool, true, cond, not, _&&_, _||_}
 use mathlib.Core.Option.{Option, none, some}
 use lib.ListN.{length, getD}
 use lib.Dec.{leb, ltb, eqb}
 use Rattle.octets.specs.Octets.{same}
+use Rattle.nodes.specs.Table.{tableSize}
 use Rattle.text.specs.Text.{ascii}
 
 -- ---- the format's numbers
@@ -19,7 +20,7 @@ abbrev pub tableMost : ℕ
 tableMost = 16384
 
 abbrev pub tableRight : ℕ
-tableRight = 14400
+tableRight = tableSize
 
 abbrev pub roomMost : ℕ
 roomMost = 1024

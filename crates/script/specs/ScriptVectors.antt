@@ -1,111 +1,77 @@
--- Lines and their calls, computed: each call word, and each kind of bad line.
+-- Lines and their calls, computed: each call word, and each kind of bad line, as two tables.
 use Prim.Native.Nat.{ℕ, _<_}
 use mathlib.Core.Path.{_≡_, refl}
-use mathlib.Core.List.{[], _∷_, map}
-use mathlib.Core.Option.{none, some}
+use mathlib.Core.List.{List, [], _∷_, map}
+use mathlib.Core.Option.{Option, none, some}
 use native.Mathlib.Omega.{arith}
 use lib.ListN.{length, replicate, length-replicate}
 use Rattle.octets.specs.Octets.{same}
 use Rattle.text.specs.Text.{ascii}
-use Rattle.script.specs.Script.{words, digitsFrom, isPlain, number, numberUpTo, hexValue, allHex, isBytes, pairs, bytes, start, enrol, feed, close, finish, show, tableOf, startOf, enrolOf, feedOf, closeOf, finishOf, showOf, called, callOf, parse}
+use Rattle.script.specs.Script.{words, digitsFrom, isPlain, number, numberUpTo, hexValue, allHex, isBytes, pairs, bytes, Call, start, enrol, feed, close, finish, show, tableOf, startOf, enrolOf, feedOf, closeOf, finishOf, showOf, called, callOf, parse}
 use Rattle.script.specs.Answers.{decoded, fitting}
 use Rattle.script.specs.CallLaws.{parse-long}
 
 -- ---- right lines
 
-start-right : map parse (ascii "start 00fFa9" ∷ ascii "start - 0" ∷ ascii "start 41 16384" ∷ []) ≡ some (start (0 ∷ 255 ∷ 169 ∷ []) 14400) ∷ some (start [] 0) ∷ some (start (65 ∷ []) 16384) ∷ []
-unfolding words ascii same digitsFrom isPlain number numberUpTo hexValue allHex isBytes pairs bytes tableOf startOf enrolOf feedOf closeOf finishOf showOf called callOf parse
-start-right = refl
+-- a line and its call
+record Row : Type 0 where
+  line : List ℕ
+  call : Option Call
 
-enrol-right : map parse (ascii "enrol 0 0" ∷ ascii "enrol 255 65535 14399" ∷ []) ≡ some (enrol 0 0 14400) ∷ some (enrol 255 65535 14399) ∷ []
-unfolding words ascii same digitsFrom isPlain number numberUpTo hexValue allHex isBytes pairs bytes tableOf startOf enrolOf feedOf closeOf finishOf showOf called callOf parse
-enrol-right = refl
+abbrev row : List ℕ → Call → Row
+row l c = record { line = l; call = some c }
 
-feed-right : map parse (ascii "feed 3 1024 c0" ∷ ascii "feed 255 0 - 10" ∷ []) ≡ some (feed 3 1024 (192 ∷ []) 14400) ∷ some (feed 255 0 [] 10) ∷ []
-unfolding words ascii same digitsFrom isPlain number numberUpTo hexValue allHex isBytes pairs bytes tableOf startOf enrolOf feedOf closeOf finishOf showOf called callOf parse
-feed-right = refl
+abbrev rows : List Row
+rows =
+    row (ascii "start 00fFa9") (start (0 ∷ 255 ∷ 169 ∷ []) 14400)
+    ∷ row (ascii "start - 0") (start [] 0)
+    ∷ row (ascii "start 41 16384") (start (65 ∷ []) 16384)
+    ∷ row (ascii "enrol 0 0") (enrol 0 0 14400)
+    ∷ row (ascii "enrol 255 65535 14399") (enrol 255 65535 14399)
+    ∷ row (ascii "feed 3 1024 c0") (feed 3 1024 (192 ∷ []) 14400)
+    ∷ row (ascii "feed 255 0 - 10") (feed 255 0 [] 10)
+    ∷ row (ascii "close 0") (close 0)
+    ∷ row (ascii "close 255") (close 255)
+    ∷ row (ascii "finish 65535 1024") (finish 65535 1024)
+    ∷ row (ascii "finish 258 0") (finish 258 0)
+    ∷ row (ascii "show") show
+    ∷ []
 
-close-right : map parse (ascii "close 0" ∷ ascii "close 255" ∷ []) ≡ some (close 0) ∷ some (close 255) ∷ []
-unfolding words ascii same digitsFrom isPlain number numberUpTo hexValue allHex isBytes pairs bytes tableOf startOf enrolOf feedOf closeOf finishOf showOf called callOf parse
-close-right = refl
+abbrev tried : Row → Row
+tried r = record { line = r .line; call = parse (r .line) }
 
-finish-right : map parse (ascii "finish 65535 1024" ∷ ascii "finish 258 0" ∷ []) ≡ some (finish 65535 1024) ∷ some (finish 258 0) ∷ []
+rows-hold : map tried rows ≡ rows
 unfolding words ascii same digitsFrom isPlain number numberUpTo hexValue allHex isBytes pairs bytes tableOf startOf enrolOf feedOf closeOf finishOf showOf called callOf parse
-finish-right = refl
-
-show-right : parse (ascii "show") ≡ some show
-unfolding words ascii same digitsFrom isPlain number numberUpTo hexValue allHex isBytes pairs bytes tableOf startOf enrolOf feedOf closeOf finishOf showOf called callOf parse
-show-right = refl
+rows-hold = refl
 
 -- ---- bad lines
 
-other-word : map parse (ascii "stop" ∷ ascii "shows" ∷ ascii "sho" ∷ ascii "start00" ∷ ascii "-" ∷ []) ≡ none ∷ none ∷ none ∷ none ∷ none ∷ []
-unfolding words ascii same digitsFrom isPlain number numberUpTo hexValue allHex isBytes pairs bytes tableOf startOf enrolOf feedOf closeOf finishOf showOf called callOf parse
-other-word = refl
+-- by line: another call word, a word missing, a word too many, an empty line, a CR, a tab, a leading space, a trailing space, a doubled space,
+-- a capital in a call word, a number out of its range, a leading zero, a sign, six digits, no number, an odd number of digits, no digit
+abbrev badLines : List (List ℕ)
+badLines =
+    ascii "stop" ∷ ascii "shows" ∷ ascii "sho" ∷ ascii "start00" ∷ ascii "-"
+    ∷ ascii "start" ∷ ascii "enrol" ∷ ascii "enrol 1" ∷ ascii "feed" ∷ ascii "feed 0" ∷ ascii "feed 0 512" ∷ ascii "close" ∷ ascii "finish" ∷ ascii "finish 1"
+    ∷ ascii "start 00 1 2" ∷ ascii "enrol 1 2 3 4" ∷ ascii "feed 0 1 - 2 3" ∷ ascii "close 1 2" ∷ ascii "finish 1 2 3" ∷ ascii "show 1"
+    ∷ ascii ""
+    ∷ ascii "show\r" ∷ ascii "close 1\r" ∷ ascii "\rshow"
+    ∷ ascii "close\t1" ∷ ascii "close 1\t" ∷ ascii "\tshow"
+    ∷ ascii " show" ∷ ascii " close 1"
+    ∷ ascii "show " ∷ ascii "close 1 " ∷ ascii "start " ∷ ascii "start - " ∷ ascii "enrol 1 2 "
+    ∷ ascii "close  1" ∷ ascii "start -  1" ∷ ascii "feed 0 1  -" ∷ ascii "enrol 1  2"
+    ∷ ascii "Show" ∷ ascii "STart -" ∷ ascii "feeD 0 1 -"
+    ∷ ascii "start - 16385" ∷ ascii "enrol 256 0" ∷ ascii "enrol 0 65536" ∷ ascii "enrol 0 0 16385" ∷ ascii "feed 256 0 -" ∷ ascii "feed 0 1025 -" ∷ ascii "feed 0 0 - 16385" ∷ ascii "close 256" ∷ ascii "finish 65536 0" ∷ ascii "finish 0 1025"
+    ∷ ascii "close 01" ∷ ascii "close 00" ∷ ascii "start - 014400" ∷ ascii "finish 00000 0"
+    ∷ ascii "close -1" ∷ ascii "close +1" ∷ ascii "close -" ∷ ascii "start - -"
+    ∷ ascii "close 100000" ∷ ascii "close 000001" ∷ ascii "finish 655350 0"
+    ∷ ascii "close a" ∷ ascii "close 1a" ∷ ascii "close 0x1" ∷ ascii "close 1," ∷ ascii "close :" ∷ ascii "close /"
+    ∷ ascii "start 0" ∷ ascii "start 012" ∷ ascii "feed 0 1 abc"
+    ∷ ascii "start 0g" ∷ ascii "start 0G" ∷ ascii "start 0x00" ∷ ascii "start --" ∷ ascii "start -00" ∷ ascii "start :0" ∷ ascii "start /0" ∷ ascii "start @0" ∷ ascii "start `0"
+    ∷ []
 
-word-missing : map parse (ascii "start" ∷ ascii "enrol" ∷ ascii "enrol 1" ∷ ascii "feed" ∷ ascii "feed 0" ∷ ascii "feed 0 512" ∷ ascii "close" ∷ ascii "finish" ∷ ascii "finish 1" ∷ []) ≡ none ∷ none ∷ none ∷ none ∷ none ∷ none ∷ none ∷ none ∷ none ∷ []
+bad : map parse badLines ≡ replicate (length badLines) none
 unfolding words ascii same digitsFrom isPlain number numberUpTo hexValue allHex isBytes pairs bytes tableOf startOf enrolOf feedOf closeOf finishOf showOf called callOf parse
-word-missing = refl
-
-word-too-many : map parse (ascii "start 00 1 2" ∷ ascii "enrol 1 2 3 4" ∷ ascii "feed 0 1 - 2 3" ∷ ascii "close 1 2" ∷ ascii "finish 1 2 3" ∷ ascii "show 1" ∷ []) ≡ none ∷ none ∷ none ∷ none ∷ none ∷ none ∷ []
-unfolding words ascii same digitsFrom isPlain number numberUpTo hexValue allHex isBytes pairs bytes tableOf startOf enrolOf feedOf closeOf finishOf showOf called callOf parse
-word-too-many = refl
-
-empty : parse (ascii "") ≡ none
-unfolding words ascii same digitsFrom isPlain number numberUpTo hexValue allHex isBytes pairs bytes tableOf startOf enrolOf feedOf closeOf finishOf showOf called callOf parse
-empty = refl
-
-carriage-return : map parse (ascii "show\r" ∷ ascii "close 1\r" ∷ ascii "\rshow" ∷ []) ≡ none ∷ none ∷ none ∷ []
-unfolding words ascii same digitsFrom isPlain number numberUpTo hexValue allHex isBytes pairs bytes tableOf startOf enrolOf feedOf closeOf finishOf showOf called callOf parse
-carriage-return = refl
-
-tab : map parse (ascii "close\t1" ∷ ascii "close 1\t" ∷ ascii "\tshow" ∷ []) ≡ none ∷ none ∷ none ∷ []
-unfolding words ascii same digitsFrom isPlain number numberUpTo hexValue allHex isBytes pairs bytes tableOf startOf enrolOf feedOf closeOf finishOf showOf called callOf parse
-tab = refl
-
-leading-space : map parse (ascii " show" ∷ ascii " close 1" ∷ []) ≡ none ∷ none ∷ []
-unfolding words ascii same digitsFrom isPlain number numberUpTo hexValue allHex isBytes pairs bytes tableOf startOf enrolOf feedOf closeOf finishOf showOf called callOf parse
-leading-space = refl
-
-trailing-space : map parse (ascii "show " ∷ ascii "close 1 " ∷ ascii "start " ∷ ascii "start - " ∷ ascii "enrol 1 2 " ∷ []) ≡ none ∷ none ∷ none ∷ none ∷ none ∷ []
-unfolding words ascii same digitsFrom isPlain number numberUpTo hexValue allHex isBytes pairs bytes tableOf startOf enrolOf feedOf closeOf finishOf showOf called callOf parse
-trailing-space = refl
-
-doubled-space : map parse (ascii "close  1" ∷ ascii "start -  1" ∷ ascii "feed 0 1  -" ∷ ascii "enrol 1  2" ∷ []) ≡ none ∷ none ∷ none ∷ none ∷ []
-unfolding words ascii same digitsFrom isPlain number numberUpTo hexValue allHex isBytes pairs bytes tableOf startOf enrolOf feedOf closeOf finishOf showOf called callOf parse
-doubled-space = refl
-
-capital : map parse (ascii "Show" ∷ ascii "STart -" ∷ ascii "feeD 0 1 -" ∷ []) ≡ none ∷ none ∷ none ∷ []
-unfolding words ascii same digitsFrom isPlain number numberUpTo hexValue allHex isBytes pairs bytes tableOf startOf enrolOf feedOf closeOf finishOf showOf called callOf parse
-capital = refl
-
-out-of-range : map parse (ascii "start - 16385" ∷ ascii "enrol 256 0" ∷ ascii "enrol 0 65536" ∷ ascii "enrol 0 0 16385" ∷ ascii "feed 256 0 -" ∷ ascii "feed 0 1025 -" ∷ ascii "feed 0 0 - 16385" ∷ ascii "close 256" ∷ ascii "finish 65536 0" ∷ ascii "finish 0 1025" ∷ []) ≡ none ∷ none ∷ none ∷ none ∷ none ∷ none ∷ none ∷ none ∷ none ∷ none ∷ []
-unfolding words ascii same digitsFrom isPlain number numberUpTo hexValue allHex isBytes pairs bytes tableOf startOf enrolOf feedOf closeOf finishOf showOf called callOf parse
-out-of-range = refl
-
-leading-zero : map parse (ascii "close 01" ∷ ascii "close 00" ∷ ascii "start - 014400" ∷ ascii "finish 00000 0" ∷ []) ≡ none ∷ none ∷ none ∷ none ∷ []
-unfolding words ascii same digitsFrom isPlain number numberUpTo hexValue allHex isBytes pairs bytes tableOf startOf enrolOf feedOf closeOf finishOf showOf called callOf parse
-leading-zero = refl
-
-sign : map parse (ascii "close -1" ∷ ascii "close +1" ∷ ascii "close -" ∷ ascii "start - -" ∷ []) ≡ none ∷ none ∷ none ∷ none ∷ []
-unfolding words ascii same digitsFrom isPlain number numberUpTo hexValue allHex isBytes pairs bytes tableOf startOf enrolOf feedOf closeOf finishOf showOf called callOf parse
-sign = refl
-
-six-digits : map parse (ascii "close 100000" ∷ ascii "close 000001" ∷ ascii "finish 655350 0" ∷ []) ≡ none ∷ none ∷ none ∷ []
-unfolding words ascii same digitsFrom isPlain number numberUpTo hexValue allHex isBytes pairs bytes tableOf startOf enrolOf feedOf closeOf finishOf showOf called callOf parse
-six-digits = refl
-
-no-number : map parse (ascii "close a" ∷ ascii "close 1a" ∷ ascii "close 0x1" ∷ ascii "close 1," ∷ ascii "close :" ∷ ascii "close /" ∷ []) ≡ none ∷ none ∷ none ∷ none ∷ none ∷ none ∷ []
-unfolding words ascii same digitsFrom isPlain number numberUpTo hexValue allHex isBytes pairs bytes tableOf startOf enrolOf feedOf closeOf finishOf showOf called callOf parse
-no-number = refl
-
-odd-digits : map parse (ascii "start 0" ∷ ascii "start 012" ∷ ascii "feed 0 1 abc" ∷ []) ≡ none ∷ none ∷ none ∷ []
-unfolding words ascii same digitsFrom isPlain number numberUpTo hexValue allHex isBytes pairs bytes tableOf startOf enrolOf feedOf closeOf finishOf showOf called callOf parse
-odd-digits = refl
-
-no-digit : map parse (ascii "start 0g" ∷ ascii "start 0G" ∷ ascii "start 0x00" ∷ ascii "start --" ∷ ascii "start -00" ∷ ascii "start :0" ∷ ascii "start /0" ∷ ascii "start @0" ∷ ascii "start `0" ∷ []) ≡ none ∷ none ∷ none ∷ none ∷ none ∷ none ∷ none ∷ none ∷ none ∷ []
-unfolding words ascii same digitsFrom isPlain number numberUpTo hexValue allHex isBytes pairs bytes tableOf startOf enrolOf feedOf closeOf finishOf showOf called callOf parse
-no-digit = refl
+bad = refl
 
 -- a line of 40001 bytes
 long : parse (replicate 40001 48) ≡ none

@@ -6,14 +6,14 @@ use native.Mathlib.Omega.{arith}
 use lib.ListN.{length, length-append, getD}
 use Rattle.text.specs.Text.{ascii}
 use Rattle.text.specs.DecimalLaws.{decimal-below}
-use Rattle.answers.specs.Shows.{nodeCount, nodeWord, nodesBelow}
+use Rattle.answers.specs.Shows.{targetCount, nodeWord, nodesBelow}
 
-pub nodeWord-short : (node : ℕ) (marked : Bool) → node < nodeCount → length (nodeWord node marked) ≤ 4
+pub nodeWord-short : (node : ℕ) (marked : Bool) → node < targetCount → length (nodeWord node marked) ≤ 4
 unfolding nodeWord ascii
 nodeWord-short node true h = omega (arith, decimal-below 3 node (omega arith) (omega arith))
 nodeWord-short node false h = omega arith
 
-pub nodesBelow-short : (n : ℕ) (nodes : List Bool) → n ≤ nodeCount → length (nodesBelow n nodes) ≤ 4 * n
+pub nodesBelow-short : (n : ℕ) (nodes : List Bool) → n ≤ targetCount → length (nodesBelow n nodes) ≤ 4 * n
 unfolding nodesBelow
 nodesBelow-short zero nodes h = omega arith
 nodesBelow-short (suc n) nodes h =

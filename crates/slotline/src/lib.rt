@@ -9,9 +9,10 @@ ghost use Rattle.store.specs.Wrote.{Wrote};
 ghost use Rattle.text.specs.Text.{ascii, decimal, hex4};
 ghost use Rattle.text.specs.Built.{Built};
 ghost use Rattle.text.specs.Appended.{appended, Leaves};
-ghost use Rattle.answers.specs.Shows.{slotSize, slotLine, nodeCount, nodeWord, nodesBelow};
+ghost use Rattle.answers.specs.Shows.{slotSize, slotLine, targetCount, nodeWord, nodesBelow};
 
-pub const NODES: usize = 200;
+// A session's nodes are 0 to 199.
+pub const TARGETS: usize = 200;
 
 // No line is longer.
 const SLOT_SIZE: usize = 1024;
@@ -31,7 +32,7 @@ pub fn slot_line(
     slot: u8,
     session: u16,
     line: u8,
-    nodes: [bool; NODES],
+    nodes: [bool; TARGETS],
 ) -> usize
     ensures { λ r. ⌜ Leaves (appended (now (out .entry)) at (slotLine slot session line nodes)) (now (out .exit)) r ⌝ }
 {
@@ -41,7 +42,7 @@ pub fn slot_line(
 }
 
 // The whole line, at the front of some room.
-fn slot_text(whole: &mut [u8], slot: u8, session: u16, line: u8, nodes: [bool; NODES]) -> usize
+fn slot_text(whole: &mut [u8], slot: u8, session: u16, line: u8, nodes: [bool; TARGETS]) -> usize
     requires { ⌜ length (now whole) ≡ slotSize ⌝ }
     ensures { λ r. ⌜ Built slotSize slotSize (slotLine slot session line nodes) (now (whole .exit)) r ⌝ }
 {
@@ -61,13 +62,13 @@ fn slot_head(whole: &mut [u8], slot: u8, session: u16) -> usize
 }
 
 // The nodes that are marked, each behind a space: no more than four bytes a node.
-fn put_nodes(out: &mut [u8], at: usize, nodes: [bool; NODES]) -> usize
-    requires { ⌜ at + 4 * nodeCount ≤ length (now out) ⌝ }
-    ensures { λ r. ⌜ Wrote (now (out .entry)) at (nodesBelow nodeCount nodes) (now (out .exit)) r ⌝ }
+fn put_nodes(out: &mut [u8], at: usize, nodes: [bool; TARGETS]) -> usize
+    requires { ⌜ at + 4 * targetCount ≤ length (now out) ⌝ }
+    ensures { λ r. ⌜ Wrote (now (out .entry)) at (nodesBelow targetCount nodes) (now (out .exit)) r ⌝ }
 {
     let mut place = at;
     let mut node = 0;
-    while node < NODES {
+    while node < TARGETS {
         place = node_word(out, place, node, nodes[node]);
         node += 1;
     }
@@ -75,7 +76,7 @@ fn put_nodes(out: &mut [u8], at: usize, nodes: [bool; NODES]) -> usize
 }
 
 fn node_word(out: &mut [u8], at: usize, node: usize, marked: bool) -> usize
-    requires { ⌜ (node < nodeCount) × (at + 4 ≤ length (now out)) ⌝ }
+    requires { ⌜ (node < targetCount) × (at + 4 ≤ length (now out)) ⌝ }
     ensures { λ r. ⌜ Wrote (now (out .entry)) at (nodeWord node marked) (now (out .exit)) r ⌝ }
 {
     if !marked {

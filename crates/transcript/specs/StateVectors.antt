@@ -1,5 +1,5 @@
 -- The state's lines at some states.
-use Prim.Native.Nat.{ℕ}
+use Prim.Native.Nat.{ℕ, _-_, _*_}
 use mathlib.Core.Path.{_≡_, refl}
 use mathlib.Core.List.{List, [], _∷_, _++_, map}
 use mathlib.Core.Bool.{Bool, true, false}
@@ -29,7 +29,7 @@ hub = record { password = []; logins = false ∷ true ∷ false ∷ false ∷ []
 
 -- two records, of which the second is in use, and the front of a third
 table : List ℕ
-table = replicate recordSize 0 ++ (1 ∷ replicate 71 0) ++ (1 ∷ [])
+table = replicate recordSize 0 ++ (1 ∷ replicate (recordSize - 1) 0) ++ (1 ∷ [])
 
 -- records that are taken as they are, and that claim too much
 readings : List Reading
@@ -41,7 +41,7 @@ readings =
     ∷ []
 
 node : List ℕ
-node = ascii "node 1 01" ++ replicate 142 48 ++ ascii "\n"
+node = ascii "node 1 01" ++ replicate (2 * (recordSize - 1)) 48 ++ ascii "\n"
 
 state : stateLines hub table (map taken readings)
     ≡ ascii "login 0100\n"

@@ -3,6 +3,7 @@ use borrow.Author.Needs.{needs}
 use Rattle.cases.proofs.cuts_agree.Statement.{statement}
 use Rattle.cases.proofs.cuts_agree.Tie as tie
 
+-- Each turn goes on to the next place, up to the wire's end.
 abbrev Inv-loop : tie.InvT-loop
 Inv-loop wire whole place₀ place-end place = place ≤ place-end
 

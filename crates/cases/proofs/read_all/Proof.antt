@@ -7,6 +7,7 @@ use Rattle.line.specs.CallLaws.{answer-rest}
 use Rattle.cases.proofs.read_all.Statement.{statement}
 use Rattle.cases.proofs.read_all.Tie as tie
 
+-- Each turn uses bytes that there are, and what is lent keeps its length.
 abbrev Inv-loop : tie.InvT-loop
 Inv-loop out₀ wire at₀ reading₀ place₀ out at reading place = (place ≤ length wire) × (length out ≡ length out₀)
 

@@ -5,6 +5,7 @@ use Rattle.directory.specs.Directory.{count}
 use Rattle.commands.proofs.main.Statement.{statement}
 use Rattle.commands.proofs.main.Tie as tie
 
+-- Each turn goes on to the next entry, up to the directory's end.
 abbrev Inv-loop : tie.InvT-loop
 Inv-loop place₀ place = place ≤ count
 

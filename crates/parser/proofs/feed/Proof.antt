@@ -1,7 +1,7 @@
 use mathlib.Core.Path.{refl, sym, ap, _∙_}
 use native.Mathlib.Omega.{arith}
 use Rattle.script.specs.Script.{byteMost, roomMost}
-use Rattle.script.specs.Code.{told, Numbered, Spelled}
+use Rattle.script.specs.Code.{told, Numbered, BytesAt}
 use Rattle.script.specs.declared.Taken.the-variants.{Word}
 use Rattle.script.specs.ByteLaws.{upTo-most, bytes-is, bytes-not}
 use Rattle.script.specs.CallLaws.{feed-parts, table-most}
@@ -16,7 +16,7 @@ number c = rw (c .number .given .1) at (c .before .before .number-at .ensures)
 room : (c : tie.After-room) → Numbered (c .before .before .before .before .before .before .before .before .args .line .now) (c .before .before .before .before .number .given .0 .1 .0) roomMost (Word (c .room .given .0 .0) (c .room .given .0 .1 .0))
 room c = rw (c .room .given .1) at (c .before .before .number-at2 .ensures)
 
-word : (c : tie.After-len) → Spelled (c .before .before .before .before .before .before .before .before .before .before .before .before .args .line .now) (c .before .before .before .before .room .given .0 .1 .0) (Word (c .len .given .0 .0) (c .len .given .0 .1 .0))
+word : (c : tie.After-len) → BytesAt (c .before .before .before .before .before .before .before .before .before .before .before .before .args .line .now) (c .before .before .before .before .room .given .0 .1 .0) (Word (c .len .given .0 .0) (c .len .given .0 .1 .0))
 word c = rw (c .len .given .1) at (c .before .before .bytes-at .ensures)
 
 number-at-requires : tie.Need-number-at-requires

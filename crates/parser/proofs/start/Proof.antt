@@ -1,5 +1,5 @@
 use mathlib.Core.Path.{refl, sym, ap, _∙_}
-use Rattle.script.specs.Code.{told, Spelled}
+use Rattle.script.specs.Code.{told, BytesAt}
 use Rattle.script.specs.declared.Taken.the-variants.{Word}
 use Rattle.script.specs.ByteLaws.{bytes-is, bytes-not}
 use Rattle.script.specs.CallLaws.{start-parts, table-most}
@@ -8,7 +8,7 @@ use Rattle.parser.proofs.start.Statement.{statement}
 use Rattle.parser.proofs.start.Tie as tie
 
 -- the word of bytes
-word : (c : tie.After-len) → Spelled (c .before .before .before .before .args .line .now) (c .before .before .before .before .args .from) (Word (c .len .given .0 .0) (c .len .given .0 .1 .0))
+word : (c : tie.After-len) → BytesAt (c .before .before .before .before .args .line .now) (c .before .before .before .before .args .from) (Word (c .len .given .0 .0) (c .len .given .0 .1 .0))
 word c = rw (c .len .given .1) at (c .before .before .bytes-at .ensures)
 
 bytes-at-requires : tie.Need-bytes-at-requires

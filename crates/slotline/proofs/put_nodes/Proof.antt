@@ -4,17 +4,17 @@ use native.Mathlib.Numerals.{add-one}
 use native.Mathlib.Omega.{arith}
 use Rattle.store.specs.Wrote.{Wrote}
 use Rattle.store.specs.WroteLaws.{none, then, kept}
-use Rattle.answers.specs.Shows.{nodeCount, nodesBelow}
+use Rattle.answers.specs.Shows.{targetCount, nodesBelow}
 use Rattle.slotline.specs.SlotLaws.{nodesBelow-short}
 use Rattle.slotline.proofs.put_nodes.Statement.{statement}
 use Rattle.slotline.proofs.put_nodes.Tie as tie
 
 -- The marked nodes below `node` are stored, and nothing else is.
 abbrev Inv-loop : tie.InvT-loop
-Inv-loop out₀ at nodes place₀ node₀ out place node = (node ≤ nodeCount) × Wrote out₀ at (nodesBelow node nodes) out place
+Inv-loop out₀ at nodes place₀ node₀ out place node = (node ≤ targetCount) × Wrote out₀ at (nodesBelow node nodes) out place
 
 abbrev μ-loop : tie.MeasureT-loop
-μ-loop out₀ at nodes place₀ node₀ out place node = nodeCount - node
+μ-loop out₀ at nodes place₀ node₀ out place node = targetCount - node
 
 loop-holds : tie.Need-loop-holds Inv-loop μ-loop
 unfolding nodesBelow
@@ -44,7 +44,7 @@ same-length c = kept (c .before .loop .inv .1)
 returns : tie.Need-returns Inv-loop μ-loop
 returns c =
     let l = c .before .loop in
-    let e : l .node ≡ nodeCount = omega arith in
+    let e : l .node ≡ targetCount = omega arith in
     rw e at (l .inv .1)
 
 pub put-nodes-spec : {M : Type 1} → statement M

@@ -5,7 +5,7 @@ use Rattle.text.specs.Text.{ascii, decimal, hex4}
 use Rattle.text.specs.Built.{Built}
 use Rattle.text.specs.BuiltLaws.{built-wrote, built-word, built-all, built-room}
 use Rattle.numbered.specs.NumberedLaws.{built-word-number}
-use Rattle.answers.specs.Shows.{slotSize, nodeCount, nodesBelow, slotLine}
+use Rattle.answers.specs.Shows.{slotSize, targetCount, nodesBelow, slotLine}
 use Rattle.slotline.specs.SlotLaws.{nodesBelow-short}
 use borrow.Author.Needs.{needs}
 use Rattle.slotline.proofs.slot_text.Statement.{statement}
@@ -30,7 +30,7 @@ append-numbered-requires : tie.Need-append-numbered-requires
 append-numbered-requires c κs = search needs
 
 put-nodes-requires : tie.Need-put-nodes-requires
-put-nodes-requires c κs = built-room (4 * nodeCount) (head (c .before .before .before)) (omega arith)
+put-nodes-requires c κs = built-room (4 * targetCount) (head (c .before .before .before)) (omega arith)
 
 slice-aggregate-append : tie.Need-slice-aggregate-append
 slice-aggregate-append c = search needs
@@ -47,7 +47,7 @@ returns c =
     let a = c .before .before .before .before .before .before .before .before .before .before .before .before .before .before .before .before .before .before .before .before .args in
     built-all (omega arith)
     (built-word (ascii "\n") (omega arith) (c .before .before .append .ensures)
-    (built-wrote (nodesBelow nodeCount (a .nodes)) (4 * nodeCount) (nodesBelow-short nodeCount (a .nodes) (omega arith)) (c .before .before .before .before .before .before .before .put-nodes .ensures)
+    (built-wrote (nodesBelow targetCount (a .nodes)) (4 * targetCount) (nodesBelow-short targetCount (a .nodes) (omega arith)) (c .before .before .before .before .before .before .before .put-nodes .ensures)
     (head (c .before .before .before .before .before .before .before .before .before .before .before))))
 
 pub slot-text-spec : {M : Type 1} → statement M
