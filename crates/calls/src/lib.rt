@@ -1,5 +1,6 @@
 // What the hub's calls answer (document 01, "What the commands do", and its table of call refusals).
-// It has no code. specs/Answers.antt gives each answer its paper's number and values, specs/Replies.antt what a reply leaves in the room.
+// It has no code. specs/Answers.antt gives each answer its paper's number and values, specs/Promises.antt says what close and feed promise,
+// specs/Lent.antt the same of a lent record, specs/Replies.antt what a reply leaves in the room.
 // It stands on what the line and the frame layer, the lists of feeds and the hub's rules state.
 use frame::Outcome;
 use line::Reading;

@@ -1,6 +1,7 @@
 // The calls on a line: close it, and feed it bytes (document 01, "What the commands do"). The host's other calls are in `host`.
 // State goes in and out by value; the node table and the reply room are lent. Each call's promise is the rule's in answer, hub,
-// table, record and every byte of the room, refusals included: crate rules, specs/Hub.antt, and crate feeds, specs/Service.antt.
+// table, record and every byte of the room, refusals included: crate calls, specs/Promises.antt.
+// It stands on the reader of frames, the requests, the lines' logins and the code that closes a line's sessions.
 ghost use Prim.Native.Nat.{_≤_};
 ghost use mathlib.Core.Path.{_≡_};
 ghost use lib.ListN.{length};
@@ -9,11 +10,10 @@ ghost use Rattle.frame.specs.Answers.{told, Within};
 ghost use Rattle.frame.specs.Writing.{minRoom};
 ghost use Rattle.nodes.specs.Table.{tableSize};
 ghost use Rattle.feeds.specs.System.{serveIf};
-ghost use Rattle.feeds.specs.Service.{Promise};
 ghost use Rattle.calls.specs.Replies.{Serves};
 ghost use Rattle.rules.specs.Hub.{hub as system, closedLine};
-ghost use Rattle.rules.specs.Promises.{Closes};
-ghost use Rattle.calls.specs.Answers.{closedOf, fedOf, refusedFeed, BoundedClosed, BoundedFed};
+ghost use Rattle.calls.specs.Answers.{refusedFeed};
+ghost use Rattle.calls.specs.Promises.{ClosesByValue, FeedsByValue};
 use calls::CallAnswer;
 use calls::Closed;
 use calls::Fed;
@@ -26,7 +26,7 @@ use rules::Hub;
 
 // A line is closed: its login is lost, its reading state emptied, its sessions closed.
 pub fn close(hub: Hub, reading: Reading, line: u8) -> Closed
-    ensures { λ r. ⌜ Closes hub reading line (closedOf r) × BoundedClosed (r .answer) (r .reading) ⌝ }
+    ensures { λ r. ⌜ ClosesByValue hub reading line r ⌝ }
 {
     if rules::LINES <= line as usize {
         return Closed {
@@ -68,7 +68,7 @@ pub fn feed(
     bytes: &[u8],
     room: &mut [u8],
 ) -> Fed
-    ensures { λ r. ⌜ Promise system hub (now (table .entry)) reading line (now (bytes .entry)) (now (room .entry)) (fedOf r (now (table .exit)) (now (room .exit))) × BoundedFed (r .answer) (r .reading) ⌝ }
+    ensures { λ r. ⌜ FeedsByValue hub (now (table .entry)) reading line (now (bytes .entry)) (now (room .entry)) r (now (table .exit)) (now (room .exit)) ⌝ }
 {
     if table.len() != nodes::TABLE {
         return refused(hub, reading, Refusal::WrongTable);

@@ -1,5 +1,4 @@
 -- What the walks share of a function that lends a record in a local l to a call, `let mut l = r; let t = f(&mut l); with(t, l)`.
---     Hb           the hub, which both walks pass
 --     lends        the record in the local is lent for a lifetime that is made for the call
 --     comes-home   the lifetime is ended, and the record stands in the local as the call left it
 --     gives-back   of what the call told and of the record the answer is made, and returned: `with(t, l)`
@@ -30,12 +29,7 @@ use denote.Struct.Laws.{makes, tells}
 use denote.Triple.Statement.{Triple}
 use Rattle.lent.proofs.Part.{Plain, Value, rowOf, layoutOf, valOf, valsOf, typed}
 use Rattle.lent.proofs.Back.{there}
-use Rattle.rules.proofs.Hub as hub-type
-use Rattle.rules.proofs.Hub.Laws as hub-laws
 use Rattle.lending.proofs.Whole.{Whole, gives-whole}
-
-abbrev pub Hb : Plain
-Hb = record { type = hub-type.the-type; laws = hub-laws.the-laws; pure = hub-laws.the-plain }
 
 module _ (R : Plain) where
   module _ {M : Type 1} {𝓤 : URA M} {H : Heap 𝓤} {A : Atoms 𝓤} {K : Type 0} {W : Given 𝓤 H A} {Γ : List (Item 𝓤)} {G : Goal 𝓤 H} where

@@ -1,10 +1,7 @@
 // The service's calls for a caller that keeps its records by value: a line's record is lent to the call, and given back beside what the
-// call gives. Each promises what the hub's call by value does: crate rules, specs/Promises.antt, and crate feeds, specs/Service.antt.
+// call gives. Each promises what the hub's call by value does: crate calls, specs/Promises.antt.
 // A caller of these needs no proof by hand, as one that lends a record itself does. It stands on `service` and the parts of an answer.
-ghost use Rattle.feeds.specs.Service.{Promise};
-ghost use Rattle.rules.specs.Hub.{hub as system};
-ghost use Rattle.rules.specs.Promises.{Closes};
-ghost use Rattle.calls.specs.Answers.{closedOf, fedOf, BoundedClosed, BoundedFed};
+ghost use Rattle.calls.specs.Promises.{ClosesByValue, FeedsByValue};
 use calls::Closed;
 use calls::Fed;
 use line::Reading;
@@ -12,7 +9,7 @@ use rules::Hub;
 
 // A line is closed: its login is lost, its reading state emptied, its sessions closed.
 pub fn close(hub: Hub, reading: Reading, line: u8) -> Closed
-    ensures { λ r. ⌜ Closes hub reading line (closedOf r) × BoundedClosed (r .answer) (r .reading) ⌝ }
+    ensures { λ r. ⌜ ClosesByValue hub reading line r ⌝ }
 {
     let mut lent = reading;
     let closed = service::close(hub, &mut lent, line);
@@ -28,7 +25,7 @@ pub fn feed(
     bytes: &[u8],
     room: &mut [u8],
 ) -> Fed
-    ensures { λ r. ⌜ Promise system hub (now (table .entry)) reading line (now (bytes .entry)) (now (room .entry)) (fedOf r (now (table .exit)) (now (room .exit))) × BoundedFed (r .answer) (r .reading) ⌝ }
+    ensures { λ r. ⌜ FeedsByValue hub (now (table .entry)) reading line (now (bytes .entry)) (now (room .entry)) r (now (table .exit)) (now (room .exit)) ⌝ }
 {
     let mut lent = reading;
     let fed = service::feed(hub, table, &mut lent, line, bytes, room);

@@ -36,17 +36,12 @@ use denote.Exit.{yes}
 use denote.Triple.Clauses.{ensured, lasts}
 use Rattle.line.specs.declared.Reading.{Reading}
 use Rattle.rules.specs.declared.Hub.{Hub}
-use Rattle.rules.specs.Promises.{Closes}
 use Rattle.calls.specs.declared.Closed.{Closed}
-use Rattle.calls.specs.Answers.{closedOf, BoundedClosed}
+use Rattle.calls.specs.Promises.{ClosesByValue}
 use Rattle.calls.specs.declared.ClosedLent.{ClosedLent}
 use Rattle.calls.specs.Lent.{closedAnswer, ClosesLent}
 use Rattle.lent.proofs.Part.{Plain, rowOf, valOf, valsOf, typed}
 use Rattle.lent.proofs.OnRecord.{R}
-use Rattle.calls.proofs.Closed as closed-type
-use Rattle.calls.proofs.Closed.Laws as closed-laws
-use Rattle.calls.proofs.ClosedLent as told-type
-use Rattle.calls.proofs.ClosedLent.Laws as told-laws
 use Rattle.service.proofs.close as on-lent
 use Rattle.service.proofs.close.Symbol as on-lent-def
 use Rattle.service.proofs.close.Symbol.{name as #service·close}
@@ -58,25 +53,16 @@ use Rattle.lending.proofs.close.Key.{name as #lending·close}
 use Rattle.lending.proofs.close as close
 use Rattle.lending.proofs.close.Statement as stated
 use Rattle.lending.proofs.close.Code as code
+use Rattle.service.proofs.Types.{HubType as Hb, ClosedType as An, ClosedLentType as To}
 use Rattle.service.proofs.Free.{free-full}
 use Rattle.lending.proofs.Whole.{Whole}
-use Rattle.lending.proofs.Lend.{Hb, lends, comes-home, gives-back}
-
-abbrev An : Plain
-An = record { type = closed-type.the-type; laws = closed-laws.the-laws; pure = closed-laws.the-plain }
-
-abbrev To : Plain
-To = record { type = told-type.the-type; laws = told-laws.the-laws; pure = told-laws.the-plain }
+use Rattle.lending.proofs.Lend.{lends, comes-home, gives-back}
 
 abbrev stayed : Stays (close.ended .signature .params) (close.ended .kept)
 stayed = (stay-none (λ _. rowOf Hb) yes, (stay-none (λ _. rowOf R) yes, (stay-none (λ _. u8) yes, tt)))
 
--- what the call by value promises
-abbrev Gives : Hub → Reading → ℕ → Closed → Type 0
-Gives g h n a = Closes g h n (closedOf a) × BoundedClosed (a .answer) (a .reading)
-
-final : (g : Hub) (h : Reading) (n : ℕ) (t : ClosedLent) (h′ : Reading) (a : Closed) → ClosesLent g h n t h′ → a ≡ closedAnswer t h′ → Gives g h n a
-final g h n t h′ a e₁ e₂ = subst (Gives g h n) (sym e₂) e₁
+final : (g : Hub) (h : Reading) (n : ℕ) (t : ClosedLent) (h′ : Reading) (a : Closed) → ClosesLent g h n t h′ → a ≡ closedAnswer t h′ → ClosesByValue g h n a
+final g h n t h′ a e₁ e₂ = subst (ClosesByValue g h n) (sym e₂) e₁
 
 module _ {M : Type 1} (𝓤 : URA M) (H : Heap 𝓤) (A : Atoms 𝓤) (mem′ : Memory → SProp 𝓤) (run : Routine → Fun 𝓤) where
   abbrev Close : Contract 𝓤
@@ -104,7 +90,7 @@ module _ {M : Type 1} (𝓤 : URA M) (H : Heap 𝓤) (A : Atoms 𝓤) (W : Given
       qed W (‵ (flft (α ∷ []) fullShare) ∷ ‵ (Ref l α γ) ∷ []) ∵ nothing ! $ owned ! u8 (Is u8) (uint-makes 𝓤 H A W w8) n _ (refl, fits) $ fjoin ! $ move ! (2 ∷ 0 ∷ []) $ fjoin ! $
       owned ! (rowOf Hb) (Is (rowOf Hb)) (makes (Hb .type) (Hb .pure) 𝓤 H A) g _ is-g $ fjoin ! $ nothing ! $ move ! (2 ∷ 0 ∷ []) $ join ! $ join ! $ frame ! $ done !
 
-  exits : (a : Closed) (w : Val) → Gives g h n a → ent 𝓤 (sem 𝓤 H A (rowOf An .own a (w ∷ []))) (Post w)
+  exits : (a : Closed) (w : Val) → ClosesByValue g h n a → ent 𝓤 (sem 𝓤 H A (rowOf An .own a (w ∷ []))) (Post w)
   exits a w e =
       qed W (‵ (rowOf An .own a (w ∷ [])) ∷ []) ∵
       suffices ! _ (ends-at 𝓤 H A close.ended stayed (close.clauses 𝓤 H A mem′ run) W ((tt, tt, tt, x, at), tt) w a (tt, (tt, (tt, tt))) (tt, (tt, (tt, tt)))) $ says ! e $

@@ -40,19 +40,13 @@ use denote.Triple.Walked.{says, Stays, stay-none, stay-none-slice, gave-slice, w
 use denote.Exit.{yes}
 use denote.Triple.Clauses.{ensured, lasts}
 use Rattle.line.specs.declared.Reading.{Reading}
-use Rattle.feeds.specs.Service.{Promise}
 use Rattle.rules.specs.declared.Hub.{Hub}
-use Rattle.rules.specs.Hub as rules
 use Rattle.calls.specs.declared.Fed.{Fed}
-use Rattle.calls.specs.Answers.{fedOf, BoundedFed}
+use Rattle.calls.specs.Promises.{FeedsByValue}
 use Rattle.calls.specs.declared.FedLent.{FedLent}
 use Rattle.calls.specs.Lent.{fedAnswer, FeedsLent}
 use Rattle.lent.proofs.Part.{Plain, rowOf, valOf, valsOf, typed}
 use Rattle.lent.proofs.OnRecord.{R}
-use Rattle.calls.proofs.Fed as fed-type
-use Rattle.calls.proofs.Fed.Laws as fed-laws
-use Rattle.calls.proofs.FedLent as told-type
-use Rattle.calls.proofs.FedLent.Laws as told-laws
 use Rattle.service.proofs.feed as on-lent
 use Rattle.service.proofs.feed.Symbol as on-lent-def
 use Rattle.service.proofs.feed.Symbol.{name as #service·feed}
@@ -64,15 +58,10 @@ use Rattle.lending.proofs.feed.Key.{name as #lending·feed}
 use Rattle.lending.proofs.feed as feed
 use Rattle.lending.proofs.feed.Statement as stated
 use Rattle.lending.proofs.feed.Code as code
+use Rattle.service.proofs.Types.{HubType as Hb, FedType as An, FedLentType as To}
 use Rattle.service.proofs.Free.{free-full}
 use Rattle.lending.proofs.Whole.{Whole}
-use Rattle.lending.proofs.Lend.{Hb, lends, comes-home, gives-back}
-
-abbrev An : Plain
-An = record { type = fed-type.the-type; laws = fed-laws.the-laws; pure = fed-laws.the-plain }
-
-abbrev To : Plain
-To = record { type = told-type.the-type; laws = told-laws.the-laws; pure = told-laws.the-plain }
+use Rattle.lending.proofs.Lend.{lends, comes-home, gives-back}
 
 abbrev stayed : Stays (feed.ended .signature .params) (feed.ended .kept)
 stayed = (
@@ -86,13 +75,9 @@ stayed = (
   ),
 )
 
--- what the call by value promises
-abbrev Gives : Hub → List ℕ → Reading → ℕ → List ℕ → List ℕ → Fed → List ℕ → List ℕ → Type 0
-Gives g t h n bytes room a t′ room′ = Promise rules.hub g t h n bytes room (fedOf a t′ room′) × BoundedFed (a .answer) (a .reading)
-
 final : (g : Hub) (t : List ℕ) (h : Reading) (n : ℕ) (bytes room : List ℕ) (r : FedLent) (t′ : List ℕ) (h′ : Reading) (room′ : List ℕ) (a : Fed)
-    → FeedsLent g t h n bytes room r t′ h′ room′ → a ≡ fedAnswer r h′ → Gives g t h n bytes room a t′ room′
-final g t h n bytes room r t′ h′ room′ a e₁ e₂ = subst (λ (a′ : Fed). Gives g t h n bytes room a′ t′ room′) (sym e₂) e₁
+    → FeedsLent g t h n bytes room r t′ h′ room′ → a ≡ fedAnswer r h′ → FeedsByValue g t h n bytes room a t′ room′
+final g t h n bytes room r t′ h′ room′ a e₁ e₂ = subst (λ (a′ : Fed). FeedsByValue g t h n bytes room a′ t′ room′) (sym e₂) e₁
 
 module _ {M : Type 1} (𝓤 : URA M) (H : Heap 𝓤) (A : Atoms 𝓤) (mem′ : Memory → SProp 𝓤) (run : Routine → Fun 𝓤) where
   abbrev Feed : Contract 𝓤
@@ -150,7 +135,7 @@ module _ {M : Type 1} (𝓤 : URA M) (H : Heap 𝓤) (A : Atoms 𝓤) (W : Given
       move ! (2 ∷ []) $ split ! $ move ! (3 ∷ 1 ∷ []) $ join ! $ move ! (1 ∷ 0 ∷ []) $ join ! $ use2 W (raw (Feed 𝓤 H A mem′ run .pre (to-feed l α γ)))
       (qed W (Called α ∷ ‵ (owns (rowOf Hb ∷ MutSlice (named 0) κ₀ u8 ∷ MutRef (named 1) (α ∷ []) (rowOf R) ∷ u8 ∷ ShrSlice (named 2) κ₁ u8 ∷ MutSlice (named 3) κ₂ u8 ∷ []) (to-feed l α γ .0 .3) (to-feed l α γ .0 .4)) ∷ []) ∵ join ! $ frame ! $ done !) $ frame ! $ done !
 
-  exits : (a : Fed) (w : Val) (t′ room′ : List ℕ) → length t′ ≡ length (now tb) → length room′ ≡ length (now rm) → Gives g (now tb) h n (now bs) (now rm) a t′ room′
+  exits : (a : Fed) (w : Val) (t′ room′ : List ℕ) → length t′ ≡ length (now tb) → length room′ ≡ length (now rm) → FeedsByValue g (now tb) h n (now bs) (now rm) a t′ room′
       → ent 𝓤 (⋆ 𝓤 H A (‵ (rowOf An .own a (w ∷ [])) ∷ Tokens ∷ ‵ (finally u8 (rm .name) room′) ∷ ‵ (finally u8 (tb .name) t′) ∷ ‵ Bytes ∷ [])) (Post w)
   exits a w t′ room′ lt lr e =
       qed W (‵ (rowOf An .own a (w ∷ [])) ∷ Tokens ∷ ‵ (finally u8 (rm .name) room′) ∷ ‵ (finally u8 (tb .name) t′) ∷ ‵ Bytes ∷ []) ∵

@@ -38,20 +38,13 @@ use denote.Exit.{yes}
 use denote.Triple.Clauses.{ensured, lasts}
 use Rattle.line.specs.declared.Reading.{Reading}
 use Rattle.rules.specs.declared.Hub.{Hub}
-use Rattle.rules.specs.Promises.{Closes}
 use Rattle.calls.specs.declared.Closed.{Closed}
-use Rattle.calls.specs.Answers.{closedOf, BoundedClosed}
+use Rattle.calls.specs.Promises.{ClosesByValue}
 use Rattle.calls.specs.declared.ClosedLent.{ClosedLent}
 use Rattle.calls.specs.Lent.{closedTold, ClosesLent}
 use Rattle.lent.proofs.Part.{Plain, rowOf, valOf, valsOf, typed, Part}
 use Rattle.lent.proofs.Back.{takes-out, puts-back}
 use Rattle.lent.proofs.OnRecord.{R}
-use Rattle.rules.proofs.Hub as hub-type
-use Rattle.rules.proofs.Hub.Laws as hub-laws
-use Rattle.calls.proofs.Closed as closed-type
-use Rattle.calls.proofs.Closed.Laws as closed-laws
-use Rattle.calls.proofs.ClosedLent as told-type
-use Rattle.calls.proofs.ClosedLent.Laws as told-laws
 use Rattle.hub.proofs.close as by-value
 use Rattle.hub.proofs.close.Symbol as by-value-def
 use Rattle.hub.proofs.close.Symbol.{name as #hub·close}
@@ -66,16 +59,8 @@ use Rattle.service.proofs.close.Key.{name as #service·close}
 use Rattle.service.proofs.close as close
 use Rattle.service.proofs.close.Statement as stated
 use Rattle.service.proofs.close.Code as code
+use Rattle.service.proofs.Types.{HubType as Hb, ClosedType as An, ClosedLentType as To}
 use Rattle.service.proofs.Free.{free-full}
-
-abbrev Hb : Plain
-Hb = record { type = hub-type.the-type; laws = hub-laws.the-laws; pure = hub-laws.the-plain }
-
-abbrev An : Plain
-An = record { type = closed-type.the-type; laws = closed-laws.the-laws; pure = closed-laws.the-plain }
-
-abbrev To : Plain
-To = record { type = told-type.the-type; laws = told-laws.the-laws; pure = told-laws.the-plain }
 
 abbrev record-of : Closed → Reading
 record-of a = a .reading
@@ -83,11 +68,7 @@ record-of a = a .reading
 abbrev stayed : Stays (close.ended .signature .params) (close.ended .kept)
 stayed = (stay-none (λ _. rowOf Hb) yes, (stay-ref (0 ∷ []) tt (plain (λ _. rowOf R)), (stay-none (λ _. u8) yes, tt)))
 
--- what the call by value promises
-abbrev Gives : Hub → Reading → ℕ → Closed → Type 0
-Gives g h n a = Closes g h n (closedOf a) × BoundedClosed (a .answer) (a .reading)
-
-final : (g : Hub) (h : Reading) (n : ℕ) (a : Closed) (h′ : Reading) (t : ClosedLent) → Gives g h n a → h′ ≡ a .reading → t ≡ closedTold a → ClosesLent g h n t h′
+final : (g : Hub) (h : Reading) (n : ℕ) (a : Closed) (h′ : Reading) (t : ClosedLent) → ClosesByValue g h n a → h′ ≡ a .reading → t ≡ closedTold a → ClosesLent g h n t h′
 final g h n a h′ t e₁ e₂ e₃ = rw (e₂, e₃) e₁
 
 module _ {M : Type 1} (𝓤 : URA M) (H : Heap 𝓤) (A : Atoms 𝓤) (mem′ : Memory → SProp 𝓤) (run : Routine → Fun 𝓤) where
@@ -113,8 +94,8 @@ module _ {M : Type 1} (𝓤 : URA M) (H : Heap 𝓤) (A : Atoms 𝓤) (W : Given
       qed W [] ∵ nothing ! $ owned ! u8 (Is u8) (uint-makes 𝓤 H A W w8) n _ (refl, fits) $ fjoin ! $ owned ! (rowOf R) (Is (rowOf R)) (makes (R .type) (R .pure) 𝓤 H A) h _ was $ fjoin ! $
       owned ! (rowOf Hb) (Is (rowOf Hb)) (makes (Hb .type) (Hb .pure) 𝓤 H A) g _ is-g $ fjoin ! $ nothing ! $ join ! $ frame ! $ done !
 
-  close-said : (a : Closed) → ent 𝓤 (ensured 𝓤 H A by-value.ended (by-value.clauses 𝓤 H A mem′ run) tt (g, (h, (n, tt))) tt a) (fact 𝓤 (Gives g h n a))
-  close-said a = exE 𝓤 _ (λ ws. snd∗ 𝓤 (sem 𝓤 H A (lasts by-value.ended tt (g, (h, (n, tt))) ws)) (fact 𝓤 (Gives g h n a)))
+  close-said : (a : Closed) → ent 𝓤 (ensured 𝓤 H A by-value.ended (by-value.clauses 𝓤 H A mem′ run) tt (g, (h, (n, tt))) tt a) (fact 𝓤 (ClosesByValue g h n a))
+  close-said a = exE 𝓤 _ (λ ws. snd∗ 𝓤 (sem 𝓤 H A (lasts by-value.ended tt (g, (h, (n, tt))) ws)) (fact 𝓤 (ClosesByValue g h n a)))
 
   exits : (h′ : Reading) (t : ClosedLent) (u : Val) → ClosesLent g h n t h′
       → ent 𝓤 (⋆ 𝓤 H A (‵ (rowOf To .own t (u ∷ [])) ∷ ‵ (fobs γ (rowOf R .coded .code h′)) ∷ ‵ (fbor κ (Body (mem (rowOf R)) b o γ)) ∷ ‵ (flft κ q) ∷ ‵ ftrue ∷ [])) (Post u)
@@ -138,7 +119,7 @@ module _ {M : Type 1} (𝓤 : URA M) (H : Heap 𝓤) (A : Atoms 𝓤) (W : Given
         use0 W (raw (Close 𝓤 H A mem′ run .pre to-close)) (goes-close was) $
         calls-at ! fm (Close 𝓤 H A mem′ run) known to-close (and-then ! (load ! (from ! (stop !)) (look ! 14 refl)) (and-then ! (load ! (from ! (stop !)) (look ! 5 refl)) (and-then ! (load ! (from ! (stop !)) (look ! 11 refl)) (no-more !)))) (λ u.
         use1 W (later (some (λ (a : Closed). (‵ ftrue ⊛ ‵ (rowOf An .own a (u ∷ []))) ⊛ raw (ensured 𝓤 H A by-value.ended (by-value.clauses 𝓤 H A mem′ run) tt (g, (h, (n, tt))) tt a)))) (id⊢ 𝓤 _) $ await ! tt $ pick ! (λ a.
-        split ! $ move ! (1 ∷ []) $ use1 W (raw (fact 𝓤 (Gives g h n a))) (close-said a) $ heard ! (Gives g h n a) (λ e₁. split ! $ drop ! $
+        split ! $ move ! (1 ∷ []) $ use1 W (raw (fact 𝓤 (ClosesByValue g h n a))) (close-said a) $ heard ! (ClosesByValue g h n a) (λ e₁. split ! $ drop ! $
         facts ! (rowOf An) (Is (rowOf An)) (shows 𝓤 H A (rowOf An)) a (u ∷ []) (λ is-a.
         land ! (from ! (stop !)) (init ! 8 refl (typed An 𝓤 H A W a u is-a)) $
         move ! (0 ∷ 1 ∷ 2 ∷ 3 ∷ 4 ∷ 8 ∷ 5 ∷ 15 ∷ []) $ puts-back R An To record-of closedTold ! fm known-record known-told refl refl refl a u is-a (λ h′ v t w e₂ e₃.

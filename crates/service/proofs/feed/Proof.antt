@@ -41,22 +41,14 @@ use denote.Triple.Walked.{says, Stays, stay-none, stay-none-slice, stay-ref, gav
 use denote.Exit.{yes}
 use denote.Triple.Clauses.{ensured, lasts}
 use Rattle.line.specs.declared.Reading.{Reading}
-use Rattle.feeds.specs.Service.{Promise}
 use Rattle.rules.specs.declared.Hub.{Hub}
-use Rattle.rules.specs.Hub as rules
 use Rattle.calls.specs.declared.Fed.{Fed}
-use Rattle.calls.specs.Answers.{fedOf, BoundedFed}
+use Rattle.calls.specs.Promises.{FeedsByValue}
 use Rattle.calls.specs.declared.FedLent.{FedLent}
 use Rattle.calls.specs.Lent.{fedTold, FeedsLent}
 use Rattle.lent.proofs.Part.{Plain, rowOf, valOf, valsOf, typed, Part}
 use Rattle.lent.proofs.Back.{takes-out, puts-back}
 use Rattle.lent.proofs.OnRecord.{R}
-use Rattle.rules.proofs.Hub as hub-type
-use Rattle.rules.proofs.Hub.Laws as hub-laws
-use Rattle.calls.proofs.Fed as fed-type
-use Rattle.calls.proofs.Fed.Laws as fed-laws
-use Rattle.calls.proofs.FedLent as told-type
-use Rattle.calls.proofs.FedLent.Laws as told-laws
 use Rattle.hub.proofs.feed as by-value
 use Rattle.hub.proofs.feed.Symbol as by-value-def
 use Rattle.hub.proofs.feed.Symbol.{name as #hub·feed}
@@ -71,16 +63,8 @@ use Rattle.service.proofs.feed.Key.{name as #service·feed}
 use Rattle.service.proofs.feed as feed
 use Rattle.service.proofs.feed.Statement as stated
 use Rattle.service.proofs.feed.Code as code
+use Rattle.service.proofs.Types.{HubType as Hb, FedType as An, FedLentType as To}
 use Rattle.service.proofs.Free.{free-full}
-
-abbrev Hb : Plain
-Hb = record { type = hub-type.the-type; laws = hub-laws.the-laws; pure = hub-laws.the-plain }
-
-abbrev An : Plain
-An = record { type = fed-type.the-type; laws = fed-laws.the-laws; pure = fed-laws.the-plain }
-
-abbrev To : Plain
-To = record { type = told-type.the-type; laws = told-laws.the-laws; pure = told-laws.the-plain }
 
 abbrev record-of : Fed → Reading
 record-of a = a .reading
@@ -97,12 +81,8 @@ stayed = (
   ),
 )
 
--- what the call by value promises
-abbrev Gives : Hub → List ℕ → Reading → ℕ → List ℕ → List ℕ → Fed → List ℕ → List ℕ → Type 0
-Gives g t h n bytes room a t′ room′ = Promise rules.hub g t h n bytes room (fedOf a t′ room′) × BoundedFed (a .answer) (a .reading)
-
 final : (g : Hub) (t : List ℕ) (h : Reading) (n : ℕ) (bytes room : List ℕ) (a : Fed) (t′ room′ : List ℕ) (h′ : Reading) (r : FedLent)
-    → Gives g t h n bytes room a t′ room′ → h′ ≡ a .reading → r ≡ fedTold a → FeedsLent g t h n bytes room r t′ h′ room′
+    → FeedsByValue g t h n bytes room a t′ room′ → h′ ≡ a .reading → r ≡ fedTold a → FeedsLent g t h n bytes room r t′ h′ room′
 final g t h n bytes room a t′ room′ h′ r e₁ e₂ e₃ = rw (e₂, e₃) e₁
 
 module _ {M : Type 1} (𝓤 : URA M) (H : Heap 𝓤) (A : Atoms 𝓤) (mem′ : Memory → SProp 𝓤) (run : Routine → Fun 𝓤) where
@@ -184,8 +164,8 @@ module _ {M : Type 1} (𝓤 : URA M) (H : Heap 𝓤) (A : Atoms 𝓤) (W : Given
         (and-then ! (load ! (from ! (stop !)) (look ! 28 refl)) (and-then ! (load ! (from ! (stop !)) (look ! 13 refl)) (and-then ! (load ! (from ! (stop !)) (look ! 6 refl)) (and-then ! (load ! (from ! (stop !)) (look ! 23 refl)) (and-then ! (load ! (from ! (stop !)) (look ! 21 refl)) (and-then ! (load ! (from ! (stop !)) (look ! 8 refl)) (no-more !))))))) (λ u.
         use1 W (later (some (λ (a : Fed). (Tokens ⊛ ‵ (rowOf An .own a (u ∷ []))) ⊛ raw (ensured 𝓤 H A by-value.ended (by-value.clauses 𝓤 H A mem′ run) (to-feed .0 .0) (to-feed .0 .3) tt a)))) (id⊢ 𝓤 _) $ await ! tt $ pick ! (λ a.
         -- what the call ensures, at some last table and room
-        split ! $ move ! (1 ∷ []) $ use1 W (some (λ (ws : Unit {0} × (List ℕ × (Unit {0} × (Unit {0} × (Unit {0} × (List ℕ × Unit {0})))))). ‵ (lasts by-value.ended (to-feed .0 .0) (to-feed .0 .3) ws) ⊛ raw (fact 𝓤 (Gives g (now tb) h n (now bs) (now rm) a (ws .1 .0) (ws .1 .1 .1 .1 .1 .0))))) (id⊢ 𝓤 _) $ pick ! (λ ws.
-        split ! $ move ! (1 ∷ []) $ heard ! (Gives g (now tb) h n (now bs) (now rm) a (ws .1 .0) (ws .1 .1 .1 .1 .1 .0)) (λ e₁.
+        split ! $ move ! (1 ∷ []) $ use1 W (some (λ (ws : Unit {0} × (List ℕ × (Unit {0} × (Unit {0} × (Unit {0} × (List ℕ × Unit {0})))))). ‵ (lasts by-value.ended (to-feed .0 .0) (to-feed .0 .3) ws) ⊛ raw (fact 𝓤 (FeedsByValue g (now tb) h n (now bs) (now rm) a (ws .1 .0) (ws .1 .1 .1 .1 .1 .0))))) (id⊢ 𝓤 _) $ pick ! (λ ws.
+        split ! $ move ! (1 ∷ []) $ heard ! (FeedsByValue g (now tb) h n (now bs) (now rm) a (ws .1 .0) (ws .1 .1 .1 .1 .1 .0)) (λ e₁.
         fsplit ! $ drop ! $ fsplit ! $ fsplit ! $ move ! (1 ∷ []) $ feqL ! (λ lt. move ! (1 ∷ []) $ fsplit ! $ drop ! $ fsplit ! $ drop ! $ fsplit ! $ drop ! $ fsplit ! $ fsplit ! $ move ! (1 ∷ []) $ feqL ! (λ lr. move ! (1 ∷ []) $ drop ! $
         move ! (2 ∷ []) $ split ! $ move ! (1 ∷ []) $ facts ! (rowOf An) (Is (rowOf An)) (shows 𝓤 H A (rowOf An)) a (u ∷ []) (λ is-a.
         -- [the tokens; the room's last list; the table's; bytes; the record's cell; the open borrow; obs; auth; _10; _3; _12; …; _11; …; …; _9; …; _8; …; _7; …; _6; …; _5; …; _4; …; …; _2; …; _1; …; room for _0; …]
