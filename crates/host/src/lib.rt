@@ -1,6 +1,7 @@
 // The host's calls: the hub before any start, start, enrol, finish a session (document 01, "What the commands do").
 // State goes in and out by value; the node table and the reply room are lent. Each call's promise is the rule's in answer, hub,
 // table and every byte of the room, refusals included: crate rules, specs/Hub.antt, specs/Promises.antt.
+// It stands on the node table's and the sessions' code, on replies and on the password's code.
 ghost use Prim.Native.Nat.{_≤_};
 ghost use mathlib.Core.Path.{_≡_};
 ghost use lib.ListN.{length};

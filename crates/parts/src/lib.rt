@@ -1,5 +1,6 @@
 // An answer taken apart and put together: what feed and close give back beside the record, and the record (crate calls, specs/Lent.antt).
 // The calls on a lent record (service) take apart what the hub's calls by value answer; those by value (lending) put it together again.
+// It stands on the answers that crate calls declares.
 ghost use mathlib.Core.Path.{_≡_};
 ghost use Rattle.calls.specs.Lent.{closedTold, closedAnswer, fedTold, fedAnswer};
 use calls::Closed;
