@@ -13,8 +13,7 @@ use Rattle.sessions.specs.Search.{any}
 use Rattle.sessions.specs.Sessions as sessions
 use Rattle.feeds.specs.System as system
 use Rattle.feeds.specs.Marks.{outcomeOf}
-use Rattle.feeds.specs.Service as service
-use Rattle.feeds.specs.Service.{Lent, Got, entryOf, worldOf, resultOf, recordFor}
+use Rattle.feeds.specs.Service.{entryOf, worldOf, resultOf, recordFor}
 use Rattle.feeds.specs.ServiceLaws.{map-set, promise-feed}
 use Rattle.feeds.specs.Runs.{promise-any}
 use Rattle.rules.specs.declared.Hub.{Hub}
@@ -46,11 +45,6 @@ pub steps-after : {m e : Memory} {ss : List Step} {os : List Return} → Steps m
 unfolding afterAll
 steps-after stop = refl
 steps-after (next {ss = ss} x rest) = steps-after rest ∙ ap (λ (w : World). afterAll w (map callOf ss)) (made-after x)
-
--- a list of feeds, as demand 3 has it, is a list of calls
-pub run-steps : {m e : Memory} {gs : List Lent} {os : List (Got rules.hub)} → service.Run rules.hub m gs os e → Steps m (map feed gs) (map fed os) e
-run-steps service.stop = stop
-run-steps (service.next x rest) = next (feeds x) (run-steps rest)
 
 -- ---- what is answered
 
