@@ -20,7 +20,7 @@ use Rattle.feeds.specs.Serving.{repliesTold, ServedAll, AllOn, onLine, serveAll
 use Rattle.feeds.specs.Service.{Lent, Got, worldOf, lengthOf, recordFor, Feeds, entriesIn, resultsIn, answersIn, usedIn, toldIn}
 use Rattle.feeds.specs.CallLaws.{call-read, read-resets}
 use Rattle.feeds.specs.SystemLaws.{told-outcomes}
-use Rattle.feeds.specs.ServingLaws.{served-in-order}
+use Rattle.feeds.specs.ServingLaws.{served-in-order, frames-served}
 use Rattle.feeds.specs.Cutting.{used-same}
 use Rattle.feeds.specs.ServiceLaws as service
 use Rattle.feeds.specs.ServiceLaws.{run-results, run-answers, run-end}
@@ -28,13 +28,13 @@ use Rattle.feeds.specs.Demand3.{Line, recordAt, own-taken, has-line}
 use Rattle.rules.specs.declared.Hub.{Hub}
 use Rattle.rules.specs.Hub.{Started, Enrolled, Closed, Finish, refusedFinish, finishedOn, Finished, lineCount, feedRefusal, Reply, isLoggedIn, hub}
 use Rattle.demands.specs.Calls.{World}
+use Rattle.demands.specs.Invariants.{Unchanged, OneAtMost}
 use Rattle.demands.specs.Steps.{Memory, Step, feed, Return, fed, lineRecord, Made, starts, enrols, closes, finishes, feeds, Steps, stop, next, refusal, finishTells, feedTells, refusalTold, isRefusal, isRefused, roomLent, roomBack, recordLent, recordBack, Unprivileged, loggedByAll, callOf}
 use Rattle.demands.specs.StepsLaws.{made-refusal, steps-after, steps-logged, steps-unprivileged, steps-any}
 use Rattle.rules.specs.Refusals.{start-refused, enrol-refused, close-refused, finish-refused}
 use Rattle.demands.specs.Guard as guard
 use Rattle.demands.specs.Logins.{logged-exactly}
-use Rattle.demands.specs.OneHolder.{OneAtMost, one-holder}
-use Rattle.demands.specs.Feeds.{in-order}
+use Rattle.demands.specs.OneHolder.{one-holder}
 use Rattle.demands.specs.Demand3.{only-error-reply}
 
 -- ---- Demand 1
@@ -81,12 +81,6 @@ pub record Demand1 : Type 0 where
 
 -- ---- Demand 2
 
--- what stays
-pub record Unchanged (m e : Memory) : Type 0 where
-  pub table : e .table ≡ m .table
-  pub password : e .hub .password ≡ m .hub .password
-  pub sessions : e .hub .slots ≡ m .hub .slots
-
 -- hub and table at the end of a list of feeds, and the replies that went with outcomes
 abbrev pub servedIn : Feeds hub → ServedAll hub
 servedIn F = record { hub = F .end .hub; table = F .end .table; replies = repliesTold (resultsIn F) }
@@ -103,7 +97,7 @@ pub record Same (l : ℕ) (F G : Feeds hub) : Type 0 where
 
 pub record Demand2 : Type 0 where
   -- "Tables change only by our host or by a line that gave the password,"
-  pub guarded : {m e : Memory} {ss : List Step} {os : List Return} (x : Steps m ss os e) → Unprivileged x → Unchanged m e
+  pub guarded : {m e : Memory} {ss : List Step} {os : List Return} (x : Steps m ss os e) → Unprivileged x → Unchanged (m .hub) (m .table) (e .hub) (e .table)
   -- a line is logged in exactly if it gave the right password after its last close or start, or was so at the beginning and neither came;
   -- a hub has four logins
   pub logged : {m e : Memory} {ss : List Step} {os : List Return} (x : Steps m ss os e) (l : ℕ) → length (m .hub .logins) ≡ lineCount → l < lineCount
@@ -237,16 +231,11 @@ pub demand-1 : Demand1
 demand-1 = record { any = steps-any; exactly = made-refusal; untouched = made-untouched; without = steps-without; used-up = made-used-up }
 
 -- carried over from the definitions
-steps-guarded : {m e : Memory} {ss : List Step} {os : List Return} (x : Steps m ss os e) → Unprivileged x → Unchanged m e
+steps-guarded : {m e : Memory} {ss : List Step} {os : List Return} (x : Steps m ss os e) → Unprivileged x → Unchanged (m .hub) (m .table) (e .hub) (e .table)
 unfolding worldOf
 steps-guarded {m} {ss = ss} x u =
     let g = guard.unprivileged-unchanged (worldOf m) (map callOf ss) (steps-unprivileged x u) in
-    let a = steps-after x in
-    record {
-      table = ap (λ (w : World). w .table) a ∙ g .table;
-      password = ap (λ (w : World). w .hub .password) a ∙ g .password;
-      sessions = ap (λ (w : World). w .hub .slots) a ∙ g .sessions;
-    }
+    rw (← steps-after x) at g
 
 steps-login : {m e : Memory} {ss : List Step} {os : List Return} (x : Steps m ss os e) (l : ℕ) → length (m .hub .logins) ≡ lineCount → l < lineCount
     → isLoggedIn (e .hub) l ≡ loggedByAll l (isLoggedIn (m .hub) l) x
@@ -276,7 +265,7 @@ run-frames : (l : ℕ) (F : Feeds hub) → Line l F → AllOn l (entriesIn F) �
 unfolding worldOf
 run-frames l F line x between frames u =
     run-served F
-    ∙ in-order (worldOf (F .start)) l (entriesIn F) x (has-line l F line) (own-taken l F ∙ between) frames (ap (usedOn l (entriesIn F)) (sym (run-answers F)) ∙ u)
+    ∙ frames-served hub l (entriesIn F) (worldOf (F .start)) x (has-line l F line) (own-taken l F ∙ between) frames (ap (usedOn l (entriesIn F)) (sym (run-answers F)) ∙ u)
 
 -- the same bytes used come to the same
 run-cut : (l : ℕ) (F G : Feeds hub) → Line l F → AllOn l (entriesIn F) → AllOn l (entriesIn G) → worldOf (G .start) ≡ worldOf (F .start) → usedIn l F ≡ usedIn l G → Same l F G

@@ -12,16 +12,15 @@ use Rattle.directory.specs.Lookup as directory
 use Rattle.feeds.specs.System as feeds
 use Rattle.feeds.specs.SystemLaws.{Fed, barred, done, fed}
 use Rattle.rules.specs.declared.Hub.{Hub}
+use Rattle.demands.specs.Invariants.{Unchanged}
 use Rattle.demands.specs.Calls.{World, Call, start, enrol, close, finish, feed, after, afterAll, Unprivileged}
 use Rattle.octets.specs.Octets.{same}
 use Rattle.rules.specs.Hub.{Reply, failure, unknownCommand, frameError, notLoggedIn, Password, enter, reply, request, isLoggedIn, serve, hub}
 use Rattle.rules.specs.Cases.{either, each-verdict}
 
--- what an outcome on a line that is not logged in leaves
-pub record Guarded (h : Hub) (t : List ℕ) (r : Reply) : Type 0 where
-  pub table : r .table ≡ t
-  pub password : r .hub .password ≡ h .password
-  pub sessions : r .hub .slots ≡ h .slots
+-- said of what serving leaves
+abbrev Guarded : Hub → List ℕ → Reply → Type 0
+Guarded h t r = Unchanged h t (r .hub) (r .table)
 
 failure-guarded : (h : Hub) (t : List ℕ) (e : ℕ) → Guarded h t (failure h t e)
 failure-guarded h t e = record { table = refl; password = refl; sessions = refl }
@@ -46,25 +45,21 @@ serve-guarded h t l (frame c d) e =
 
 -- ---- feeds
 
--- what is the same before and after
-pub record Unchanged (w v : World) : Type 0 where
-  pub table : v .table ≡ w .table
-  pub password : v .hub .password ≡ w .hub .password
-  pub sessions : v .hub .slots ≡ w .hub .slots
+-- said of what is kept before and after
+abbrev Same : World → World → Type 0
+Same w v = Unchanged (w .hub) (w .table) (v .hub) (v .table)
 
-feed-unchanged : (w : World) (e : feeds.Entry) → isLoggedIn (w .hub) (e .line) ≡ false → Unchanged w (feeds.feed hub w e .0)
+feed-unchanged : (w : World) (e : feeds.Entry) → isLoggedIn (w .hub) (e .line) ≡ false → Same w (feeds.feed hub w e .0)
 unfolding feeds.settled feeds.serveIf feeds.returned
 feed-unchanged w e p = go (fed hub w e)
   where
-    go : {x : World × feeds.Result} → Fed hub w e x → Unchanged w (x .0)
+    go : {x : World × feeds.Result} → Fed hub w e x → Same w (x .0)
     go (barred n) = record { table = refl; password = refl; sessions = refl }
     go (done u s none q) = record { table = refl; password = refl; sessions = refl }
-    go (done u s (some o) q) =
-        let g = serve-guarded (w .hub) (w .table) (e .line) o p in
-        record { table = g .table; password = g .password; sessions = g .sessions }
+    go (done u s (some o) q) = serve-guarded (w .hub) (w .table) (e .line) o p
 
 -- the theorem: without the host and without a line that is logged in, table, password and sessions stay as they are
-pub unprivileged-unchanged : (w : World) (cs : List Call) → Unprivileged w cs → Unchanged w (afterAll w cs)
+pub unprivileged-unchanged : (w : World) (cs : List Call) → Unprivileged w cs → Same w (afterAll w cs)
 unfolding after afterAll
 unprivileged-unchanged w [] x = record { table = refl; password = refl; sessions = refl }
 unprivileged-unchanged w (start p ∷ cs) x = absurd x

@@ -18,8 +18,8 @@ use Rattle.rules.specs.Hub.{lineCount, isLoggedIn, hub}
 use Rattle.demands.specs.Steps as steps
 use Rattle.demands.specs.Steps.{Memory, Step, feed, Return, fed, Made, Steps, refusal, refusalTold, isRefused, Unprivileged, loggedByAll}
 use Rattle.demands.specs.Demand3 as rules
-use Rattle.demands.specs.Demands.{Untouched, Answered, demand-1, Unchanged, servedIn, servedFrom, Same, demand-2, no-two-holders}
-use Rattle.demands.specs.OneHolder.{OneAtMost}
+use Rattle.demands.specs.Demands.{Untouched, Answered, demand-1, servedIn, servedFrom, Same, demand-2, no-two-holders}
+use Rattle.demands.specs.Invariants.{Unchanged, OneAtMost}
 use Rattle.demands.specs.LentCalls.{Back, gotOf, Run, stop, next, Feeds, Call, host, closes, feeds, Calls}
 use Rattle.demands.specs.LentCalls as calls
 
@@ -57,7 +57,7 @@ pub record Demands : Type 0 where
       → Steps m (unmarked (map isRefused os) ss) (unmarked (map isRefused os) os) e
   pub used-up : {m v : Memory} {g : Lent} {o : by-value.Got hub} → Call m (feed g) (fed o) v → (u n k : ℕ) → o .answer ≡ told u (some (packet.refused n)) k
       → Answered m g o v u (some (packet.refused n)) k (record { hub = m .hub; table = m .table; reply = errorReply })
-  pub guarded : {m e : Memory} {ss : List Step} {os : List Return} (x : Calls m ss os e) → Unprivileged (stepsOf x) → Unchanged m e
+  pub guarded : {m e : Memory} {ss : List Step} {os : List Return} (x : Calls m ss os e) → Unprivileged (stepsOf x) → Unchanged (m .hub) (m .table) (e .hub) (e .table)
   pub logged : {m e : Memory} {ss : List Step} {os : List Return} (x : Calls m ss os e) (l : ℕ) → length (m .hub .logins) ≡ lineCount → l < lineCount
       → isLoggedIn (e .hub) l ≡ loggedByAll l (isLoggedIn (m .hub) l) (stepsOf x)
   pub served : {m v : Memory} {g : Lent} {o : by-value.Got hub} → Call m (feed g) (fed o) v → (u : ℕ) (y : Option Outcome) (k : ℕ) → o .answer ≡ told u y k

@@ -1,4 +1,5 @@
 pub mod Calls
+pub mod Invariants
 pub mod Guard
 pub mod Steps
 pub mod StepsLaws

@@ -19,15 +19,15 @@ use Rattle.rules.specs.declared.Hub.{Hub}
 use Rattle.octets.specs.Octets.{same}
 use Rattle.rules.specs.Hub.{Reply, Password, enter, change, getNode, removeNodes, virginState, modeSend, request, mayAsk, serve, startRefusal, startBy, closeRefusal, closeBy, finishBy, hub}
 use Rattle.rules.specs.Cases.{either, each-verdict, each-request}
+use Rattle.demands.specs.Invariants.{OneAtMost}
 use Rattle.demands.specs.Calls.{World, Call, start, enrol, close, finish, feed, after, afterAll}
 
 module _ (n : ℕ) where
-  -- node n is in one open session at the most
-  abbrev pub OneAtMost : Hub → Type 0
-  OneAtMost h = holders n (h .slots) ≤ 1
+  abbrev One : Hub → Type 0
+  One = OneAtMost n
 
   abbrev Kept : Reply → Type 0
-  Kept r = OneAtMost (r .hub)
+  Kept r = One (r .hub)
 
   -- nobody holds anything in free slots
   free : (k : ℕ) → holders n (replicate k sessions.closedSlot) ≤ 1
@@ -35,62 +35,62 @@ module _ (n : ℕ) where
   free zero = omega arith
   free (suc k) = omega (arith, free k)
 
-  entered : (h : Hub) (l : ℕ) (d : List ℕ) → OneAtMost h → OneAtMost (enter h l d .hub)
+  entered : (h : Hub) (l : ℕ) (d : List ℕ) → One h → One (enter h l d .hub)
   unfolding enter
-  entered h l d p = either (λ (x : Password). OneAtMost (x .hub)) (same d (h .password)) _ _ p p
+  entered h l d p = either (λ (x : Password). One (x .hub)) (same d (h .password)) _ _ p p
 
-  changed : (h : Hub) (old new : List ℕ) → OneAtMost h → OneAtMost (change h old new .hub)
+  changed : (h : Hub) (old new : List ℕ) → One h → One (change h old new .hub)
   unfolding change
-  changed h old new p = either (λ (x : Password). OneAtMost (x .hub)) (same old (h .password)) _ _ p p
+  changed h old new p = either (λ (x : Password). One (x .hub)) (same old (h .password)) _ _ p p
 
-  got : (h : Hub) (t : List ℕ) (k : ℕ) → OneAtMost h → OneAtMost (getNode h t k .hub)
+  got : (h : Hub) (t : List ℕ) (k : ℕ) → One h → One (getNode h t k .hub)
   unfolding getNode
   got h t k p = either Kept (table.inUse t k) _ _ p p
 
-  request-one : (h : Hub) (t : List ℕ) (l c : ℕ) (d : List ℕ) → OneAtMost h → OneAtMost (request h t l c d .hub)
+  request-one : (h : Hub) (t : List ℕ) (l c : ℕ) (d : List ℕ) → One h → One (request h t l c d .hub)
   unfolding removeNodes virginState modeSend
   request-one h t l c d p =
       each-request Kept h t l c d (λ e. entered h l d p) (changed h _ _ p) (got h t (getD d 0 0) p) p p p
       (omega (arith, close-holders n (sessions.holdsRemoved t d) (h .slots))) (omega (arith, close-holders n (λ (s : Slot). true) (h .slots)))
       (modeSend-holders n (h .slots) t l (sessions.modeSendOf d) p) p
 
-  pub serve-one : (h : Hub) (t : List ℕ) (l : ℕ) (o : Outcome) → OneAtMost h → OneAtMost (serve h t l o .hub)
+  pub serve-one : (h : Hub) (t : List ℕ) (l : ℕ) (o : Outcome) → One h → One (serve h t l o .hub)
   unfolding serve
   serve-one h t l (refused x) p = p
   serve-one h t l (frame c d) p = each-verdict Kept (directory.verdict c (length d)) _ _ _ p p (either Kept (mayAsk (h .logins) l c) _ _ (request-one h t l c d p) p)
 
-  feed-one : (w : World) (e : feeds.Entry) → OneAtMost (w .hub) → OneAtMost (feeds.feed hub w e .0 .hub)
+  feed-one : (w : World) (e : feeds.Entry) → One (w .hub) → One (feeds.feed hub w e .0 .hub)
   unfolding feeds.settled feeds.serveIf feeds.returned
   feed-one w e p = go (fed hub w e)
     where
-      go : {x : World × feeds.Result} → Fed hub w e x → OneAtMost (x .0 .hub)
+      go : {x : World × feeds.Result} → Fed hub w e x → One (x .0 .hub)
       go (barred m) = p
       go (done u s none q) = p
       go (done u s (some o) q) = serve-one (w .hub) (w .table) (e .line) o p
 
-  pub call-one : (w : World) (c : Call) → OneAtMost (w .hub) → OneAtMost (after w c .hub)
+  pub call-one : (w : World) (c : Call) → One (w .hub) → One (after w c .hub)
   unfolding after
   call-one w (start x) p = go (startRefusal (w .table) x)
     where
-      go : (o : Option ℕ) → OneAtMost (startBy o (w .hub) (w .table) x .hub)
+      go : (o : Option ℕ) → One (startBy o (w .hub) (w .table) x .hub)
       go (some m) = p
       go none = free sessions.slotCount
   call-one w (enrol k type) p = p
   call-one w (close l spare) p = go (closeRefusal l)
     where
-      go : (o : Option ℕ) → OneAtMost (closeBy o (w .hub) (getD (w .states) l spare) l .hub)
+      go : (o : Option ℕ) → One (closeBy o (w .hub) (getD (w .states) l spare) l .hub)
       go (some m) = p
       go none = omega (arith, close-holders n (sessions.isOn l) (w .hub .slots))
   call-one w (finish x room) p = go (ltb room minRoom) (sessions.finish (w .hub .slots) x) (finish-holders n (w .hub .slots) x)
     where
-      go : (b : Bool) (o : Option sessions.Finished) → holders n (leftBy o (w .hub .slots)) ≤ holders n (w .hub .slots) → OneAtMost (finishBy b o (w .hub) x .hub)
+      go : (b : Bool) (o : Option sessions.Finished) → holders n (leftBy o (w .hub .slots)) ≤ holders n (w .hub .slots) → One (finishBy b o (w .hub) x .hub)
       go true o h = p
       go false none h = p
       go false (some f) h = omega arith
   call-one w (feed e) p = feed-one w e p
 
   -- the theorem
-  pub one-holder : (w : World) (cs : List Call) → OneAtMost (w .hub) → OneAtMost (afterAll w cs .hub)
+  pub one-holder : (w : World) (cs : List Call) → One (w .hub) → One (afterAll w cs .hub)
   unfolding afterAll
   one-holder w [] p = p
   one-holder w (c ∷ cs) p = one-holder (after w c) cs (call-one w c p)
