@@ -18,7 +18,7 @@ use Rattle.feeds.specs.Marks.{answersOf, usedOn, toldOn, unmarked}
 use Rattle.feeds.specs.Sent.{Sent, frameOf, sent}
 use Rattle.feeds.specs.Serving.{repliesTold, ServedAll, AllOn, onLine, serveAll, toldAll, servedBy}
 use Rattle.feeds.specs.Service.{Lent, Got, worldOf, lengthOf, recordFor, Feeds, entriesIn, resultsIn, answersIn, usedIn, toldIn}
-use Rattle.feeds.specs.CallLaws.{call-read, read-resets}
+use Rattle.feeds.specs.CallLaws.{call-read, read-resets, read-first}
 use Rattle.feeds.specs.SystemLaws.{told-outcomes}
 use Rattle.feeds.specs.ServingLaws.{served-in-order, frames-served}
 use Rattle.feeds.specs.Cutting.{used-same}
@@ -48,7 +48,7 @@ pub record Untouched (m : Memory) (s : Step) (o : Return) (v : Memory) : Type 0 
   -- and the room
   pub room : roomBack o ≡ roomLent s
 
--- a feed "stops after the first outcome, whose END is counted as used, or at the end of the bytes": where it stops
+-- a feed "stops after the first outcome, whose END is counted as used, or at the end of the bytes": how it stops
 abbrev pub StopsAt : Lent → Got hub → ℕ → Option Outcome → Type 0
 StopsAt g o u (some y) = taken (o .reading) ≡ emptied
 StopsAt g o u none = u ≡ length (g .bytes)
@@ -59,6 +59,8 @@ pub record Answered (m : Memory) (g : Lent) (o : Got hub) (v : Memory) (u : ℕ)
   pub outcome : outcomes step (taken (recordFor hub m g)) (take u (g .bytes)) ≡ also y []
   pub state : taken (o .reading) ≡ final step (taken (recordFor hub m g)) (take u (g .bytes))
   pub stops : StopsAt g o u y
+  -- fewer bytes give none, so the outcome's END is the last one used
+  pub first : (i : ℕ) → i < u → outcomes step (taken (recordFor hub m g)) (take i (g .bytes)) ≡ []
   -- hub, table and reply are those of r, and bytes behind the reply stay
   pub hub : v .hub ≡ r .hub
   pub table : v .table ≡ r .table
@@ -215,6 +217,7 @@ made-served (feeds {m} {g} {o} x) u y k e =
       outcome = ap (λ (z : ℕ). outcomes step s (take z (g .bytes))) (sym used) ∙ tells .outcome ∙ ap (λ (z : Option Outcome). also z []) outcome;
       state = state ∙ sym (tells .after) ∙ ap (λ (z : ℕ). final step s (take z (g .bytes))) used;
       stops = read-stops g o s u y used outcome state;
+      first = λ i h. read-first s (g .bytes) i (omega arith);
       hub = x .hub ∙ ap (λ (z : Called hub). z .hub) c;
       table = x .table ∙ ap (λ (z : Called hub). z .table) c;
       count = count;

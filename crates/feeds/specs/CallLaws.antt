@@ -1,13 +1,13 @@
 -- Laws of one call, by the refusal that applies to it: what it uses, what it tells and what it leaves.
-use Prim.Native.Nat.{ℕ, _≤_, _<_}
+use Prim.Native.Nat.{ℕ, zero, suc, _≤_, _<_}
 use mathlib.Core.Path.{_≡_, refl, ap, _∙_}
 use mathlib.Core.List.{List, [], _∷_}
 use mathlib.Core.Option.{Option, none, some, Option·none-ne-some}
 use native.Mathlib.Omega.{arith}
-use lib.ListN.{length}
+use lib.ListN.{length, take}
 use Rattle.frame.specs.Frame as packet
 use Rattle.frame.specs.Frame.{Refusal, Outcome}
-use Rattle.frame.specs.Reading.{onward, scan, State, emptied, step, read}
+use Rattle.frame.specs.Reading.{also, onward, outcomes, scan, State, emptied, step, read}
 use Rattle.frame.specs.ReadingLaws.{step-resets, used-some, used-within}
 use Rattle.feeds.specs.System.{System, refused, told, serveIf, settled, decided, call, errorReply, OnlyErrorReply}
 use Rattle.feeds.specs.Marks.{countOf}
@@ -22,6 +22,18 @@ read-resets s (b ∷ w) o e = go (step s b .1) refl (read-resets (step s b .0) w
         → onward (step s b .0) x (read (step s b .0) w) .outcome ≡ some o → onward (step s b .0) x (read (step s b .0) w) .after ≡ emptied
     go none p ih e = ih e
     go (some y) p ih e = step-resets s b y p
+
+-- Fewer bytes than a call uses give no outcome.
+pub read-first : (s : State) (w : List ℕ) (n : ℕ) → n < read s w .used → outcomes step s (take n w) ≡ []
+unfolding scan onward outcomes
+read-first s w zero h = refl
+read-first s [] (suc n) h = refl
+read-first s (b ∷ w) (suc n) h = go (step s b .1) (read-first (step s b .0) w n) h
+  where
+    go : (x : Option Outcome) → (n < read (step s b .0) w .used → outcomes step (step s b .0) (take n w) ≡ [])
+        → suc n < onward (step s b .0) x (read (step s b .0) w) .used → also x (outcomes step (step s b .0) (take n w)) ≡ []
+    go none ih h = ih (omega arith)
+    go (some y) ih h = absurd (omega arith)
 
 module _ (H : System) (h : H .Hub) (t : H .Table) (s : State) (l : ℕ) (bytes : List ℕ) (room : ℕ) where
   -- A refused call uses nothing, sends nothing and changes nothing.
