@@ -1,9 +1,9 @@
 -- Demands 1 and 2, and the accident behind them, of any calls of the host and the serial service that keep their promises, in any order and
 -- number, each on what the last one left (Steps). Words in quotes are the papers'. Demand 3 is said so in Demand3.
+-- Each is said of any kind of calls, and proved here of calls by value, in LentDemands of calls on lent records.
 use Prim.Native.Nat.{ℕ, _<_}
 use mathlib.Core.Path.{_≡_, refl, sym, ap, ap₂, _∙_}
 use mathlib.Core.List.{List, [], _∷_, _++_, map}
-use mathlib.Core.Bool.{Bool}
 use mathlib.Core.Option.{Option, none, some, Option·none-ne-some, Option·some-injective}
 use native.Mathlib.Omega.{arith}
 use lib.ListN.{length, take, drop, set}
@@ -29,13 +29,23 @@ use Rattle.rules.specs.declared.Hub.{Hub}
 use Rattle.rules.specs.Hub.{Started, Enrolled, Closed, Finish, refusedFinish, finishedOn, Finished, lineCount, feedRefusal, Reply, isLoggedIn, hub}
 use Rattle.demands.specs.Calls.{World}
 use Rattle.demands.specs.Invariants.{Unchanged, OneAtMost}
-use Rattle.demands.specs.Steps.{Memory, Step, feed, Return, fed, lineRecord, Made, starts, enrols, closes, finishes, feeds, Steps, stop, next, refusal, finishTells, feedTells, refusalTold, isRefusal, isRefused, roomLent, roomBack, recordLent, recordBack, Unprivileged, loggedByAll, callOf}
-use Rattle.demands.specs.StepsLaws.{made-refusal, steps-after, steps-logged, steps-unprivileged, steps-any}
+use Rattle.demands.specs.Steps.{Memory, Step, feed, Return, fed, lineRecord, Made, starts, enrols, closes, finishes, feeds, Chain, Steps, refusal, finishTells, feedTells, refusalTold, isRefused, roomLent, roomBack, recordLent, recordBack, Unprivileged, loggedByAll, callOf}
+use Rattle.demands.specs.StepsLaws.{made-refusal, chain-without, steps-after, steps-logged, steps-unprivileged, steps-any}
 use Rattle.rules.specs.Refusals.{start-refused, enrol-refused, close-refused, finish-refused}
 use Rattle.demands.specs.Guard as guard
 use Rattle.demands.specs.Logins.{logged-exactly}
 use Rattle.demands.specs.OneHolder.{one-holder}
 use Rattle.demands.specs.Demand3.{only-error-reply}
+
+-- a kind of calls, and of lists of feeds: each list of such calls is one by value, and so is each list of feeds
+pub record Kind : Type 1 where
+  pub Call : Memory → Step → Return → Memory → Type 0
+  pub stepsOf : {m e : Memory} {ss : List Step} {os : List Return} → Chain Call m ss os e → Steps m ss os e
+  pub Fs : Type 0
+  pub feedsOf : Fs → Feeds hub
+
+abbrev pub byValue : Kind
+byValue = record { Call = Made; stepsOf = λ x. x; Fs = Feeds hub; feedsOf = λ F. F }
 
 -- ---- Demand 1
 
@@ -67,18 +77,18 @@ pub record Answered (m : Memory) (g : Lent) (o : Got hub) (v : Memory) (u : ℕ)
   pub count : k ≡ length (r .reply)
   pub reply : o .room ≡ r .reply ++ drop k (g .room)
 
-pub record Demand1 : Type 0 where
+pub record Demand1 (K : Kind) : Type 0 where
   -- "Any bytes, numbers and lent lengths may come.": every list of calls can be made, whatever is kept at its start
-  pub any : (m : Memory) (ss : List Step) → (os : List Return) × (e : Memory) × Steps m ss os e
+  pub any : (m : Memory) (ss : List Step) → (os : List Return) × (e : Memory) × Chain (K .Call) m ss os e
   -- a call is refused exactly if a refusal applies to it, with the number of the first that does
-  pub exactly : {m v : Memory} {s : Step} {o : Return} → Made m s o v → refusalTold o ≡ refusal m s
+  pub exactly : {m v : Memory} {s : Step} {o : Return} → K .Call m s o v → refusalTold o ≡ refusal m s
   -- "A refused call changes neither the hub nor lent memory;"
-  pub untouched : {m v : Memory} {s : Step} {o : Return} → Made m s o v → (n : ℕ) → refusalTold o ≡ some n → Untouched m s o v
+  pub untouched : {m v : Memory} {s : Step} {o : Return} → K .Call m s o v → (n : ℕ) → refusalTold o ≡ some n → Untouched m s o v
   -- so a list without its refused calls is made as well: every other gives the same, and the end is the same
-  pub without : {m e : Memory} {ss : List Step} {os : List Return} → Steps m ss os e
-      → Steps m (unmarked (map isRefused os) ss) (unmarked (map isRefused os) os) e
+  pub without : {m e : Memory} {ss : List Step} {os : List Return} → Chain (K .Call) m ss os e
+      → Chain (K .Call) m (unmarked (map isRefused os) ss) (unmarked (map isRefused os) os) e
   -- "a refused packet is used up and brings one error reply only."
-  pub used-up : {m v : Memory} {g : Lent} {o : Got hub} → Made m (feed g) (fed o) v → (u n k : ℕ) → o .answer ≡ told u (some (packet.refused n)) k
+  pub used-up : {m v : Memory} {g : Lent} {o : Got hub} → K .Call m (feed g) (fed o) v → (u n k : ℕ) → o .answer ≡ told u (some (packet.refused n)) k
       → Answered m g o v u (some (packet.refused n)) k (record { hub = m .hub; table = m .table; reply = errorReply })
 
 -- ---- Demand 2
@@ -97,32 +107,32 @@ pub record Same (l : ℕ) (F G : Feeds hub) : Type 0 where
   pub replies : repliesTold (resultsIn F) ≡ repliesTold (resultsIn G)
   pub end : worldOf (F .end) ≡ worldOf (G .end)
 
-pub record Demand2 : Type 0 where
+pub record Demand2 (K : Kind) : Type 0 where
   -- "Tables change only by our host or by a line that gave the password,"
-  pub guarded : {m e : Memory} {ss : List Step} {os : List Return} (x : Steps m ss os e) → Unprivileged x → Unchanged (m .hub) (m .table) (e .hub) (e .table)
+  pub guarded : {m e : Memory} {ss : List Step} {os : List Return} (x : Chain (K .Call) m ss os e) → Unprivileged (K .stepsOf x) → Unchanged (m .hub) (m .table) (e .hub) (e .table)
   -- a line is logged in exactly if it gave the right password after its last close or start, or was so at the beginning and neither came;
   -- a hub has four logins
-  pub logged : {m e : Memory} {ss : List Step} {os : List Return} (x : Steps m ss os e) (l : ℕ) → length (m .hub .logins) ≡ lineCount → l < lineCount
-      → isLoggedIn (e .hub) l ≡ loggedByAll l (isLoggedIn (m .hub) l) x
+  pub logged : {m e : Memory} {ss : List Step} {os : List Return} (x : Chain (K .Call) m ss os e) (l : ℕ) → length (m .hub .logins) ≡ lineCount → l < lineCount
+      → isLoggedIn (e .hub) l ≡ loggedByAll l (isLoggedIn (m .hub) l) (K .stepsOf x)
   -- "and each served command has the stated effect and reply": each feed's outcome is served, and nothing where there is none,
-  pub served : {m v : Memory} {g : Lent} {o : Got hub} → Made m (feed g) (fed o) v → (u : ℕ) (y : Option Outcome) (k : ℕ) → o .answer ≡ told u y k
+  pub served : {m v : Memory} {g : Lent} {o : Got hub} → K .Call m (feed g) (fed o) v → (u : ℕ) (y : Option Outcome) (k : ℕ) → o .answer ≡ told u y k
       → Answered m g o v u y k (serveIf hub (m .hub) (m .table) (g .line) y)
   -- the outcomes of a line are those of the bytes used on it, begun in the state of its record, whatever the other lines send,
-  pub told : (l : ℕ) (F : Feeds hub) → Line l F → toldIn l F ≡ outcomes step (taken (recordAt l F)) (usedIn l F)
+  pub told : (l : ℕ) (f : K .Fs) → let F = K .feedsOf f in Line l F → toldIn l F ≡ outcomes step (taken (recordAt l F)) (usedIn l F)
   -- those of all lines are served one by one in order,
-  pub in-order : (F : Feeds hub) → servedIn F ≡ servedFrom F (toldAll (entriesIn F) (answersIn F))
+  pub in-order : (f : K .Fs) → let F = K .feedsOf f in servedIn F ≡ servedFrom F (toldAll (entriesIn F) (answersIn F))
   -- and so are well-formed frames that are fed to a line between packets
-  pub frames : (l : ℕ) (F : Feeds hub) → Line l F → AllOn l (entriesIn F) → taken (recordAt l F) ≡ emptied
+  pub frames : (l : ℕ) (f : K .Fs) → let F = K .feedsOf f in Line l F → AllOn l (entriesIn F) → taken (recordAt l F) ≡ emptied
       → (frames : List Sent) → usedIn l F ≡ sent frames → servedIn F ≡ servedFrom F (onLine l (map frameOf frames))
   -- "Cutting the input into calls anywhere changes no outcome and no end state": the same bytes used on a line, refused feeds included
-  pub cut : (l : ℕ) (F G : Feeds hub) → Line l F → AllOn l (entriesIn F) → AllOn l (entriesIn G) → worldOf (G .start) ≡ worldOf (F .start)
+  pub cut : (l : ℕ) (f g : K .Fs) → let F = K .feedsOf f in let G = K .feedsOf g in Line l F → AllOn l (entriesIn F) → AllOn l (entriesIn G) → worldOf (G .start) ≡ worldOf (F .start)
       → usedIn l F ≡ usedIn l G → Same l F G
 
 -- ---- The accident
 
-pub record OneHolder : Type 0 where
+pub record OneHolder (K : Kind) : Type 0 where
   -- "its tables let two commands hold the same motor": a node that is in one open session at the most stays so
-  pub one : {m e : Memory} {ss : List Step} {os : List Return} → Steps m ss os e → (n : ℕ) → OneAtMost n (m .hub) → OneAtMost n (e .hub)
+  pub one : {m e : Memory} {ss : List Step} {os : List Return} → Chain (K .Call) m ss os e → (n : ℕ) → OneAtMost n (m .hub) → OneAtMost n (e .hub)
 
 -- ---- The proofs
 
@@ -170,20 +180,6 @@ made-untouched (feeds {m} {g} {o} x) n e =
     let (h, t, r, room) = service.refused-untouched x n (feed-told (o .answer) n e) in
     record { memory = same-memory h t (ap (set (m .records) (g .line)) r ∙ set-getD (m .records) (g .line) (g .spare)); reading = ap some r; room = ap some room }
 
--- a refused call can be left out
-steps-without : {m e : Memory} {ss : List Step} {os : List Return} → Steps m ss os e → Steps m (unmarked (map isRefused os) ss) (unmarked (map isRefused os) os) e
-unfolding unmarked isRefusal
-steps-without stop = stop
-steps-without (next {m} {v} {e} {s} {ss} {o} {os} x rest) = go (refusalTold o) refl (steps-without rest)
-  where
-    R : List Bool
-    R = map isRefused os
-
-    go : (r : Option ℕ) → refusalTold o ≡ r → Steps v (unmarked R ss) (unmarked R os) e
-        → Steps m (unmarked (isRefusal r ∷ R) (s ∷ ss)) (unmarked (isRefusal r ∷ R) (o ∷ os)) e
-    go none p y = next x y
-    go (some n) p y = rw (← made-untouched x n p .memory) y
-
 -- a call that is not refused read what it tells
 call-told : (h : Hub) (t : List ℕ) (s : State) (l : ℕ) (bytes : List ℕ) (room u : ℕ) (y : Option Outcome) (k : ℕ) → call hub h t s l bytes room .result .answer ≡ told u y k
     → (feedRefusal t l room ≡ none) × (read s bytes .used ≡ u) × (read s bytes .outcome ≡ y)
@@ -230,8 +226,8 @@ made-used-up : {m v : Memory} {g : Lent} {o : Got hub} → Made m (feed g) (fed 
 unfolding serveIf
 made-used-up {m} {g = g} x u n k e = rw (only-error-reply (m .hub) (m .table) (g .line) n) at (made-served x u (some (packet.refused n)) k e)
 
-pub demand-1 : Demand1
-demand-1 = record { any = steps-any; exactly = made-refusal; untouched = made-untouched; without = steps-without; used-up = made-used-up }
+pub demand-1 : Demand1 byValue
+demand-1 = record { any = steps-any; exactly = made-refusal; untouched = made-untouched; without = chain-without Made (λ m v s o x n p. made-untouched x n p .memory); used-up = made-used-up }
 
 -- carried over from the definitions
 steps-guarded : {m e : Memory} {ss : List Step} {os : List Return} (x : Steps m ss os e) → Unprivileged x → Unchanged (m .hub) (m .table) (e .hub) (e .table)
@@ -285,12 +281,12 @@ run-cut l F G line x y start u =
       end = run-end F ∙ s .end ∙ ap (λ (z : World). endState hub z fs) (sym start) ∙ sym (run-end G);
     }
 
-pub demand-2 : Demand2
+pub demand-2 : Demand2 byValue
 demand-2 = record { guarded = steps-guarded; logged = steps-login; served = made-served; told = run-told; in-order = run-in-order; frames = run-frames; cut = run-cut }
 
 steps-one : {m e : Memory} {ss : List Step} {os : List Return} → Steps m ss os e → (n : ℕ) → OneAtMost n (m .hub) → OneAtMost n (e .hub)
 unfolding worldOf
 steps-one {m} {e} {ss} x n p = rw (← ap (λ (w : World). w .hub) (steps-after x)) at (one-holder n (worldOf m) (map callOf ss) p)
 
-pub no-two-holders : OneHolder
+pub no-two-holders : OneHolder byValue
 no-two-holders = record { one = steps-one }

@@ -6,7 +6,7 @@ use lib.ListN.{set}
 use Rattle.line.specs.declared.Reading.{Reading}
 use Rattle.feeds.specs.Service.{Lent, Got, recordFor, leftBy}
 use Rattle.rules.specs.Hub.{hub}
-use Rattle.demands.specs.Steps.{Memory, Step, close, feed, Return, closed, fed, lineRecord, Made}
+use Rattle.demands.specs.Steps.{Memory, Step, close, feed, Return, closed, fed, lineRecord, Made, Chain}
 use Rattle.calls.specs.Answers.{closedOf, fedOf}
 use Rattle.calls.specs.declared.ClosedLent.{ClosedLent}
 use Rattle.calls.specs.declared.FedLent.{FedLent}
@@ -47,6 +47,5 @@ pub data Call : Memory → Step → Return → Memory → Type 0 where
   feeds : {m : Memory} {g : Lent} (o : Back) → FedOn m g o → Call m (feed g) (fed (gotOf o)) (leftBy hub m g (gotOf o))
 
 -- calls one after another
-pub data Calls : Memory → List Step → List Return → Memory → Type 0 where
-  stop : {m : Memory} → Calls m [] [] m
-  next : {m v e : Memory} {s : Step} {ss : List Step} {o : Return} {os : List Return} → Call m s o v → Calls v ss os e → Calls m (s ∷ ss) (o ∷ os) e
+abbrev pub Calls : Memory → List Step → List Return → Memory → Type 0
+Calls = Chain Call

@@ -37,7 +37,6 @@ use Rattle.calls.specs.Lent.{ClosesLent}
 use Rattle.demands.specs.Steps as steps
 use Rattle.demands.specs.Steps.{Memory, Step, Return, lineRecord}
 use Rattle.demands.specs.StepsLaws.{made-any}
-use Rattle.demands.specs.LentCalls as calls
 use Rattle.demands.specs.LentCalls.{Back, gotOf, FedOn, Run, stop, next, Call, host, closes, feeds, Calls}
 
 -- each number of a packet's refusal is that of a cause
@@ -188,8 +187,8 @@ call-any m (steps.feed g) = let (o, x) = fed-any m g in (_, _, feeds o x)
 
 -- every list of calls can be made
 pub calls-any : (m : Memory) (ss : List Step) → (os : List Return) × (e : Memory) × Calls m ss os e
-calls-any m [] = ([], m, calls.stop)
+calls-any m [] = ([], m, steps.stop)
 calls-any m (s ∷ ss) =
     let (o, v, x) = call-any m s in
     let (os, e, y) = calls-any v ss in
-    (o ∷ os, e, calls.next x y)
+    (o ∷ os, e, steps.next x y)

@@ -10,5 +10,5 @@ pub mod Demand3Example
 pub mod OneHolder
 pub mod Demands
 pub mod LentCalls
-pub mod LentDemands
 pub mod LentRuns
+pub mod LentDemands

@@ -60,10 +60,13 @@ pub data Made : Memory → Step → Return → Memory → Type 0 where
   feeds : {m : Memory} {g : Lent} {o : Got hub} → Promise hub (m .hub) (m .table) (recordFor hub m g) (g .line) (g .bytes) (g .room) o
       → Made m (feed g) (fed o) (leftBy hub m g o)
 
--- calls one after another: "as the last one left them, and nothing else touches these"
-pub data Steps : Memory → List Step → List Return → Memory → Type 0 where
-  stop : {m : Memory} → Steps m [] [] m
-  next : {m v e : Memory} {s : Step} {ss : List Step} {o : Return} {os : List Return} → Made m s o v → Steps v ss os e → Steps m (s ∷ ss) (o ∷ os) e
+-- calls that keep `Call`, one after another: "as the last one left them, and nothing else touches these"
+pub data Chain (Call : Memory → Step → Return → Memory → Type 0) : Memory → List Step → List Return → Memory → Type 0 where
+  stop : {m : Memory} → Chain Call m [] [] m
+  next : {m v e : Memory} {s : Step} {ss : List Step} {o : Return} {os : List Return} → Call m s o v → Chain Call v ss os e → Chain Call m (s ∷ ss) (o ∷ os) e
+
+abbrev pub Steps : Memory → List Step → List Return → Memory → Type 0
+Steps = Chain Made
 
 -- ---- refusals
 

@@ -12,7 +12,7 @@ use Rattle.frame.specs.Writing.{minRoom}
 use Rattle.sessions.specs.Search.{any}
 use Rattle.sessions.specs.Sessions as sessions
 use Rattle.feeds.specs.System as system
-use Rattle.feeds.specs.Marks.{outcomeOf}
+use Rattle.feeds.specs.Marks.{outcomeOf, unmarked}
 use Rattle.feeds.specs.Service.{entryOf, worldOf, resultOf, recordFor}
 use Rattle.feeds.specs.ServiceLaws.{map-set, promise-feed}
 use Rattle.feeds.specs.Runs.{promise-any}
@@ -21,7 +21,7 @@ use Rattle.rules.specs.Hub as rules
 use Rattle.rules.specs.Promises.{ClosedLine, Closes}
 use Rattle.demands.specs.Calls as calls
 use Rattle.demands.specs.Calls.{World, isPassword, unlessRefused, after, afterAll}
-use Rattle.demands.specs.Steps.{Memory, Step, start, enrol, close, finish, feed, Return, started, enrolled, closed, finished, fed, lineRecord, Made, starts, enrols, closes, finishes, feeds, Steps, stop, next, refusal, finishTells, feedTells, refusalTold, isPrivileged, Unprivileged, loggedBy, loggedByAll, callOf}
+use Rattle.demands.specs.Steps.{Memory, Step, start, enrol, close, finish, feed, Return, started, enrolled, closed, finished, fed, lineRecord, Made, starts, enrols, closes, finishes, feeds, Chain, Steps, stop, next, refusal, finishTells, feedTells, refusalTold, isRefusal, isRefused, isPrivileged, Unprivileged, loggedBy, loggedByAll, callOf}
 
 -- ---- what is left
 
@@ -91,6 +91,21 @@ made-refusal (feeds {m} {g} x) = ap feedTells (x .answer) ∙ go (rules.feedRefu
     go : (r : Option ℕ) → feedTells (system.decided rules.hub (m .hub) (m .table) (g .line) s (read s (g .bytes)) r .result .answer) ≡ r
     go none = refl
     go (some n) = refl
+
+-- where a refused call leaves what is kept it can be left out
+pub chain-without : (Call : Memory → Step → Return → Memory → Type 0) → ((m v : Memory) (s : Step) (o : Return) → Call m s o v → (n : ℕ) → refusalTold o ≡ some n → v ≡ m)
+    → {m e : Memory} {ss : List Step} {os : List Return} → Chain Call m ss os e → Chain Call m (unmarked (map isRefused os) ss) (unmarked (map isRefused os) os) e
+unfolding unmarked isRefusal
+chain-without Call left stop = stop
+chain-without Call left (next {m} {v} {e} {s} {ss} {o} {os} x rest) = go (refusalTold o) refl (chain-without Call left rest)
+  where
+    R : List Bool
+    R = map isRefused os
+
+    go : (r : Option ℕ) → refusalTold o ≡ r → Chain Call v (unmarked R ss) (unmarked R os) e
+        → Chain Call m (unmarked (isRefusal r ∷ R) (s ∷ ss)) (unmarked (isRefusal r ∷ R) (o ∷ os)) e
+    go none p y = next x y
+    go (some n) p y = rw (← left m v s o x n p) y
 
 -- ---- logins
 
