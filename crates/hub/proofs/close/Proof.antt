@@ -1,5 +1,4 @@
 use Rattle.hub.proofs.Laws.{close-wrong, close-done}
-use Rattle.frame.specs.Reading.{taken}
 use mathlib.Core.Path.{refl}
 use native.Mathlib.Omega.{arith}
 use borrow.Author.Needs.{needs}

@@ -40,7 +40,7 @@ use Rattle.calls.specs.declared.Closed.{Closed}
 use Rattle.calls.specs.Promises.{ClosesByValue}
 use Rattle.calls.specs.declared.ClosedLent.{ClosedLent}
 use Rattle.calls.specs.Lent.{closedAnswer, ClosesLent}
-use Rattle.lent.proofs.Part.{Plain, rowOf, valOf, valsOf, typed}
+use Rattle.lent.proofs.Part.{rowOf, valOf, valsOf, typed}
 use Rattle.lent.proofs.OnRecord.{R}
 use Rattle.service.proofs.close as on-lent
 use Rattle.service.proofs.close.Symbol as on-lent-def

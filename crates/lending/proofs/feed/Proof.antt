@@ -45,7 +45,7 @@ use Rattle.calls.specs.declared.Fed.{Fed}
 use Rattle.calls.specs.Promises.{FeedsByValue}
 use Rattle.calls.specs.declared.FedLent.{FedLent}
 use Rattle.calls.specs.Lent.{fedAnswer, FeedsLent}
-use Rattle.lent.proofs.Part.{Plain, rowOf, valOf, valsOf, typed}
+use Rattle.lent.proofs.Part.{rowOf, valOf, valsOf, typed}
 use Rattle.lent.proofs.OnRecord.{R}
 use Rattle.service.proofs.feed as on-lent
 use Rattle.service.proofs.feed.Symbol as on-lent-def

@@ -42,7 +42,7 @@ use Rattle.calls.specs.declared.Closed.{Closed}
 use Rattle.calls.specs.Promises.{ClosesByValue}
 use Rattle.calls.specs.declared.ClosedLent.{ClosedLent}
 use Rattle.calls.specs.Lent.{closedTold, ClosesLent}
-use Rattle.lent.proofs.Part.{Plain, rowOf, valOf, valsOf, typed, Part}
+use Rattle.lent.proofs.Part.{rowOf, valOf, valsOf, typed, Part}
 use Rattle.lent.proofs.Back.{takes-out, puts-back}
 use Rattle.lent.proofs.OnRecord.{R}
 use Rattle.hub.proofs.close as by-value

@@ -46,7 +46,7 @@ use Rattle.calls.specs.declared.Fed.{Fed}
 use Rattle.calls.specs.Promises.{FeedsByValue}
 use Rattle.calls.specs.declared.FedLent.{FedLent}
 use Rattle.calls.specs.Lent.{fedTold, FeedsLent}
-use Rattle.lent.proofs.Part.{Plain, rowOf, valOf, valsOf, typed, Part}
+use Rattle.lent.proofs.Part.{rowOf, valOf, valsOf, typed, Part}
 use Rattle.lent.proofs.Back.{takes-out, puts-back}
 use Rattle.lent.proofs.OnRecord.{R}
 use Rattle.hub.proofs.feed as by-value
