@@ -3,6 +3,7 @@ pub mod Marks
 pub mod Sent
 pub mod Service
 pub mod Serving
+pub mod MarksLaws
 pub mod CallLaws
 pub mod SystemLaws
 pub mod SentLaws
