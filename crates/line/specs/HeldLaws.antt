@@ -14,27 +14,32 @@ use Rattle.line.specs.declared.Mode.the-variants.{Plain, Escaped, Skippi
 use Rattle.line.specs.declared.Reading.{Reading}
 use Rattle.line.specs.Wire.{END, ESC, ESC-END, ESC-ESC}
 use Rattle.line.specs.Scan.{onward, scan}
-use Rattle.line.specs.Reader.{limit, wrongEscape, tooLong, State, plain, escaped, skipping, emptied, held, Outcome, decoded, inner, close, step, read}
+use Rattle.line.specs.Reader.{limit, tooLong, State, plain, escaped, skipping, emptied, held, Outcome, decoded, inner, close, step, read}
+use Rattle.line.specs.ReaderLaws.{cond-holds}
 use Rattle.line.specs.Answers.{taken, Clear}
 
--- A record with these bytes held, and zeros beyond.
+-- no more than 255 bytes are held
+abbrev Bounded : State → Type 0
+Bounded s = length (held s) ≤ limit
+
+-- a record with these bytes held, and zeros beyond
 padded : List ℕ → Mode → Reading
 padded h m = record { bytes = h ++ replicate (limit - length h) 0; count = length h; mode = m }
 
--- A record in a state.
+-- a record in a state
 pub recordOf : State → Reading
 recordOf (plain h) = padded h Plain
 recordOf (escaped h) = padded h Escaped
 recordOf (skipping f) = padded [] (Skipping f)
 
--- It is taken as that state.
+-- it is taken as that state
 pub taken-record : (s : State) → length (held s) ≤ limit → taken (recordOf s) ≡ s
 unfolding recordOf padded
 taken-record (plain h) x = rw (le-ltb limit (length h) x, take-append-seam h (replicate (limit - length h) 0))
 taken-record (escaped h) x = rw (le-ltb limit (length h) x, take-append-seam h (replicate (limit - length h) 0))
 taken-record (skipping f) x = refl
 
--- It has 255 places, claims no more bytes, and none while it skips.
+-- it has 255 places, claims no more bytes, and none while it skips
 padded-full : (h : List ℕ) → length h ≤ limit → length (h ++ replicate (limit - length h) 0) ≡ limit
 padded-full h x = omega (arith, length-append h (replicate (limit - length h) 0), length-replicate {A = ℕ} (limit - length h) 0)
 
@@ -45,7 +50,7 @@ record-bounded (plain h) x = (padded-full h x, x, tt)
 record-bounded (escaped h) x = (padded-full h x, x, tt)
 record-bounded (skipping f) x = (padded-full [] x, x, refl)
 
--- A byte more, and no more than 255 are held.
+-- a byte more, and no more than 255 are held
 decoded-held : (h : List ℕ) (b : ℕ) → length h ≤ limit → length (held (decoded h b)) ≤ limit
 unfolding decoded
 decoded-held h b x = go (ltb (length h) limit) refl
@@ -54,21 +59,15 @@ decoded-held h b x = go (ltb (length h) limit) refl
     go true p = omega (arith, ltb-true, length-append h (b ∷ []))
     go false p = omega arith
 
--- One of two states.
-cond-held : (t : Bool) (s v : State) → length (held s) ≤ limit → length (held v) ≤ limit → length (held (cond t s v)) ≤ limit
-cond-held true s v x y = x
-cond-held false s v x y = y
-
--- A byte that is no END.
+-- a byte that is no END
 inner-held : (s : State) (b : ℕ) → length (held s) ≤ limit → length (held (inner s b)) ≤ limit
 unfolding inner
-inner-held (plain h) b x = cond-held (eqb b ESC) (escaped h) (decoded h b) x (decoded-held h b x)
+inner-held (plain h) b x = cond-holds Bounded (eqb b ESC) _ _ x (decoded-held h b x)
 inner-held (escaped h) b x =
-    cond-held (eqb b ESC-END) (decoded h END) (cond (eqb b ESC-ESC) (decoded h ESC) (skipping (wrongEscape h))) (decoded-held h END x)
-    (cond-held (eqb b ESC-ESC) (decoded h ESC) (skipping (wrongEscape h)) (decoded-held h ESC x) (omega arith))
+    cond-holds Bounded (eqb b ESC-END) _ _ (decoded-held h END x) (cond-holds Bounded (eqb b ESC-ESC) _ _ (decoded-held h ESC x) (omega arith))
 inner-held (skipping f) b x = omega arith
 
--- Any byte.
+-- any byte
 step-held : (s : State) (b : ℕ) → length (held s) ≤ limit → length (held (step s b .0)) ≤ limit
 unfolding step
 step-held s b x = go (eqb b END)
@@ -77,7 +76,7 @@ step-held s b x = go (eqb b END)
     go true = omega arith
     go false = inner-held s b x
 
--- A call.
+-- a call
 pub read-held : (s : State) (w : List ℕ) → length (held s) ≤ limit → length (held (read s w .after)) ≤ limit
 unfolding scan onward
 read-held s [] x = x

@@ -16,7 +16,7 @@ use Rattle.line.specs.declared.Reading.{Reading}
 use Rattle.line.specs.Wire.{END, ESC, ESC-END, ESC-ESC, escape}
 use Rattle.line.specs.Scan.{also, outcomes, final}
 use Rattle.line.specs.Reader.{limit, wrongEscape, tooLong, State, plain, escaped, skipping, emptied, held, Outcome, decoded, inner, inside, close, step}
-use Rattle.line.specs.ReaderLaws.{inside-append, inside-skipping, inside-escaped}
+use Rattle.line.specs.ReaderLaws.{cond-holds, inside-append, inside-skipping, inside-escaped}
 use Rattle.line.specs.Answers.{at, taken}
 use Rattle.line.specs.Pieces.{closed, last, Symbol, byte, wrong, half, symbols, settle, decode, outcome, pieceOutcomes, joined, Every, NoEnd, Bytes, written}
 
@@ -80,22 +80,19 @@ Started (plain (b ∷ h)) = Unit {0}
 Started (escaped h) = Unit {0}
 Started (skipping f) = Unit {0}
 
-picks : (t : Bool) (x y : State) → Started x → Started y → Started (cond t x y)
-picks true x y p q = p
-picks false x y p q = q
-
 longer : (h : List ℕ) (b : ℕ) → Started (plain (h ++ b ∷ []))
 longer [] b = tt
 longer (x ∷ h) b = tt
 
 decoded-started : (h : List ℕ) (b : ℕ) → Started (decoded h b)
 unfolding decoded
-decoded-started h b = picks (ltb (length h) limit) _ _ (longer h b) tt
+decoded-started h b = cond-holds Started (ltb (length h) limit) _ _ (longer h b) tt
 
 inner-started : (s : State) (b : ℕ) → Started (inner s b)
 unfolding inner
-inner-started (plain h) b = picks (eqb b ESC) _ _ tt (decoded-started h b)
-inner-started (escaped h) b = picks (eqb b ESC-END) _ _ (decoded-started h END) (picks (eqb b ESC-ESC) _ _ (decoded-started h ESC) tt)
+inner-started (plain h) b = cond-holds Started (eqb b ESC) _ _ tt (decoded-started h b)
+inner-started (escaped h) b =
+    cond-holds Started (eqb b ESC-END) _ _ (decoded-started h END) (cond-holds Started (eqb b ESC-ESC) _ _ (decoded-started h ESC) tt)
 inner-started (skipping f) b = tt
 
 inside-started : (s : State) (p : List ℕ) → Started s → Started (inside s p)

@@ -9,7 +9,7 @@ use Rattle.line.specs.declared.Fault.the-variants.{WrongEscape, TooLong}
 use Rattle.line.specs.Wire.{END, ESC, ESC-END, ESC-ESC, escape}
 use Rattle.line.specs.Reader.{limit, wrongEscape, tooLong, refusal, State, plain, escaped, skipping, Outcome, packet, refused}
 
--- The wire is cut at every END: the pieces of w that an END closes, in order, where p stands before w.
+-- the wire is cut at every END: the pieces of w that an END closes, in order, where p stands before w
 unfoldable pub closed : List ℕ → List ℕ → List (List ℕ)
 closed p [] = []
 closed p (b ∷ w) = cond (eqb b END) (p ∷ closed [] w) (closed (p ++ b ∷ []) w)
@@ -19,7 +19,7 @@ unfoldable pub last : List ℕ → List ℕ → List ℕ
 last p [] = p
 last p (b ∷ w) = cond (eqb b END) (last [] w) (last (p ++ b ∷ []) w)
 
--- What stands in a piece, left to right: a decoded byte, an ESC with a wrong byte behind it, or an ESC at the end.
+-- what stands in a piece, left to right: a decoded byte, an ESC with a wrong byte behind it, or an ESC at the end
 pub data Symbol : Type 0 where
   byte : ℕ → Symbol
   wrong : Symbol
@@ -33,7 +33,7 @@ symbols (b ∷ c ∷ w) =
     (cond (eqb c ESC-END) (byte END ∷ symbols w) (cond (eqb c ESC-ESC) (byte ESC ∷ symbols w) (wrong ∷ [])))
     (byte b ∷ symbols (c ∷ w))
 
--- The first fault settles the piece, and the rest is skipped; h are the bytes decoded before.
+-- the first fault settles the piece, and the rest is skipped; h are the bytes decoded before
 unfoldable pub settle : List ℕ → List Symbol → State
 settle h [] = plain h
 settle h (byte b ∷ r) = cond (ltb (length h) limit) (settle (h ++ b ∷ []) r) (skipping (tooLong h))
@@ -44,37 +44,37 @@ settle h (half ∷ r) = escaped h
 unfoldable pub decode : List ℕ → State
 decode p = settle [] (symbols p)
 
--- The outcome of a closed piece that is not empty. An ESC before its END is a wrong escape too.
+-- the outcome of a closed piece that is not empty; an ESC before its END is a wrong escape too
 unfoldable pub outcome : State → Outcome
 outcome (plain h) = packet h
 outcome (escaped h) = refused (refusal (wrongEscape h))
 outcome (skipping f) = refused (refusal f)
 
--- An empty piece gives no outcome, every other closed piece exactly one.
+-- an empty piece gives no outcome, every other closed piece exactly one
 unfoldable pub pieceOutcomes : List (List ℕ) → List Outcome
 pieceOutcomes [] = []
 pieceOutcomes ([] ∷ ps) = pieceOutcomes ps
 pieceOutcomes ((b ∷ p) ∷ ps) = outcome (decode (b ∷ p)) ∷ pieceOutcomes ps
 
--- The wire again, from the pieces closed.
+-- the wire again, from the pieces closed
 unfoldable pub joined : List (List ℕ) → List ℕ
 joined [] = []
 joined (p ∷ ps) = p ++ END ∷ joined ps
 
--- What holds of each element.
+-- what holds of each element
 abbrev pub Every : {A : Type 0} → (A → Type 0) → List A → Type 0
 Every P [] = Unit {0}
 Every P (a ∷ l) = P a × Every P l
 
--- No byte is an END.
+-- no byte is an END
 abbrev pub NoEnd : List ℕ → Type 0
 NoEnd = Every (λ b. b ≡ END → ⊥)
 
--- Each number is a byte.
+-- each number is a byte
 abbrev pub Bytes : List ℕ → Type 0
 Bytes = Every (λ b. b < 256)
 
--- Bytes without an END that lead from between packets to a state.
+-- bytes without an END that lead from between packets to a state
 unfoldable pub written : State → List ℕ
 written (plain h) = escape h
 written (escaped h) = escape h ++ ESC ∷ []

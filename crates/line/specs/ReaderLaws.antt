@@ -13,6 +13,11 @@ use Rattle.line.specs.declared.Fault.{Fault}
 use Rattle.line.specs.Wire.{END, ESC, escape}
 use Rattle.line.specs.Reader.{limit, State, plain, skipping, emptied, Outcome, decoded, inner, inside, close, step}
 
+-- what holds of two states holds of the one that a test picks
+pub cond-holds : (P : State → Type 0) (t : Bool) (s v : State) → P s → P v → P (cond t s v)
+cond-holds P true s v x y = x
+cond-holds P false s v x y = y
+
 -- after an outcome the reading is between packets
 pub step-resets : (s : State) (b : ℕ) (o : Outcome) → step s b .1 ≡ some o → step s b .0 ≡ emptied
 unfolding step
