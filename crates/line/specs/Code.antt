@@ -6,9 +6,11 @@ use mathlib.Core.Option.{Option, none}
 use lib.ListN.{length, take, drop}
 use Rattle.line.specs.declared.Mode.{Mode}
 use Rattle.line.specs.declared.Mode.the-variants.{Plain, Escaped, Skipping}
+use Rattle.line.specs.declared.Outcome.{Outcome as Given}
 use Rattle.line.specs.declared.Outcome.the-variants.{Nothing, Packet, Refused}
 use Rattle.line.specs.declared.Place.{Place}
 use Rattle.line.specs.declared.Reading.{Reading}
+use Rattle.line.specs.declared.Told.{Told}
 use Rattle.line.specs.declared.Action.{Action}
 use Rattle.line.specs.declared.Action.the-variants.{Store, Keep, Skip, Give}
 use Rattle.line.specs.Scan.{ahead}
@@ -24,6 +26,10 @@ pub record Takes (p r : Place) : Type 0 where
   pub state : (bs : List ℕ) → at (take (r .count) bs) (r .mode) ≡ takenAs bs (p .count) (p .mode)
   pub within : r .count ≤ limit
   pub clear : Clear (r .mode) (r .count)
+
+-- `told_at`: an answer from its parts
+abbrev pub toldAt : ℕ → Given → ℕ → Mode → Told
+toldAt n o k m = record { used = n; outcome = o; place = record { count = k; mode = m } }
 
 -- `plain_run`: from the byte i on, k more bytes are read and stored, and the rest is as before
 pub record Runs (m : Mode) (bs : List ℕ) (n : ℕ) (w : List ℕ) (i : ℕ) (cs : List ℕ) (k : ℕ) : Type 0 where

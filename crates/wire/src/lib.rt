@@ -7,7 +7,7 @@ ghost use lib.ListN.{length};
 ghost use Rattle.line.specs.declared.Mode.the-variants.{Plain};
 ghost use Rattle.line.specs.Reader.{limit, read};
 ghost use Rattle.line.specs.Answers.{emptiedReading, taken, takenAs, answerOf, Answers};
-ghost use Rattle.line.specs.Code.{Runs};
+ghost use Rattle.line.specs.Code.{toldAt, Runs};
 use line::Action;
 use line::Answer;
 use line::END;
@@ -39,22 +39,6 @@ pub fn read(reading: Reading, wire: &[u8]) -> Answer
     answer_of(bytes, told)
 }
 
-// An answer with its bytes.
-fn answer_of(bytes: [u8; LIMIT], told: Told) -> Answer
-    ensures { λ r. ⌜ r ≡ answerOf bytes told ⌝ }
-{
-    let used = told.used;
-    let outcome = told.outcome;
-    let place = told.place;
-    let count = place.count;
-    let mode = place.mode;
-    Answer {
-        used: used,
-        outcome: outcome,
-        reading: Reading { bytes, count, mode },
-    }
-}
-
 // The same on a reading whose bytes stay where they lie: nothing is copied.
 pub fn read_in(bytes: &mut [u8; LIMIT], place: Place, wire: &[u8]) -> Told
     ensures { λ r. ⌜ Answers (read (takenAs (now (bytes .entry)) (place .count) (place .mode)) (now (wire .entry))) (answerOf (now (bytes .exit)) r) ⌝ }
@@ -68,11 +52,7 @@ pub fn read_in(bytes: &mut [u8; LIMIT], place: Place, wire: &[u8]) -> Told
         count += run;
         i += run;
         if wire.len() <= i {
-            return Told {
-                used: i,
-                outcome: Outcome::Nothing,
-                place: Place { count, mode },
-            };
+            return told_at(i, Outcome::Nothing, count, mode);
         }
         let b = wire[i];
         i += 1;
@@ -90,20 +70,36 @@ pub fn read_in(bytes: &mut [u8; LIMIT], place: Place, wire: &[u8]) -> Told
                 mode = Mode::Skipping(f);
             }
             Action::Give(outcome) => {
-                return Told {
-                    used: i,
-                    outcome: outcome,
-                    place: Place {
-                        count: 0,
-                        mode: Mode::Plain,
-                    },
-                };
+                return told_at(i, outcome, 0, Mode::Plain);
             }
         }
     }
+    told_at(i, Outcome::Nothing, count, mode)
+}
+
+// An answer with its bytes.
+fn answer_of(bytes: [u8; LIMIT], told: Told) -> Answer
+    ensures { λ r. ⌜ r ≡ answerOf bytes told ⌝ }
+{
+    let used = told.used;
+    let outcome = told.outcome;
+    let place = told.place;
+    let count = place.count;
+    let mode = place.mode;
+    Answer {
+        used: used,
+        outcome: outcome,
+        reading: Reading { bytes, count, mode },
+    }
+}
+
+// An answer from its parts.
+fn told_at(used: usize, outcome: Outcome, count: usize, mode: Mode) -> Told
+    ensures { λ r. ⌜ r ≡ toldAt used outcome count mode ⌝ }
+{
     Told {
-        used: i,
-        outcome: Outcome::Nothing,
+        used: used,
+        outcome: outcome,
         place: Place { count, mode },
     }
 }

@@ -92,13 +92,18 @@ add-count c = let h = c .plain-run .ensures .held in omega arith
 add-i : tie.Need-add-i Inv-loop μ-loop
 add-i c = let h = c .plain-run .ensures .within in omega arith
 
+told-at-requires : tie.Need-told-at-requires Inv-loop μ-loop
+told-at-requires c κs = search needs
+
 returns : tie.Need-returns Inv-loop μ-loop
 returns c =
+    let d = c .before in
+    rw (c .told-at .ensures)
     record {
-      told = rw (le-ltb limit _ (c .before .plain-run .ensures .held)) (sym (begun (c .before .before .before .before .before) ∙ ran (c .before) ∙ ended step _ _ _ _ (c .if1 .taken)));
+      told = rw (le-ltb limit _ (d .before .plain-run .ensures .held)) (sym (begun (d .before .before .before .before .before) ∙ ran (d .before) ∙ ended step _ _ _ _ (d .if1 .taken)));
       packet-within = tt;
-      count-within = c .before .plain-run .ensures .held;
-      clear = c .before .plain-run .ensures .clear (c .before .before .before .before .loop .inv .2);
+      count-within = d .before .plain-run .ensures .held;
+      clear = d .before .plain-run .ensures .clear (d .before .before .before .before .loop .inv .2);
     }
 
 shared-slice-read-b : tie.Need-shared-slice-read-b Inv-loop μ-loop
@@ -160,13 +165,17 @@ loop-again-3 c =
 enum-known-outcome : tie.Need-enum-known-outcome Inv-loop μ-loop
 enum-known-outcome c = search needs
 
+told-at-requires-2 : tie.Need-told-at-requires-2 Inv-loop μ-loop
+told-at-requires-2 c κs = search needs
+
 returns-2 : tie.Need-returns-2 Inv-loop μ-loop
 returns-2 c =
-    let d = c .before .before .before in
+    let d = c .before .before .before .before in
     let r = d .before .before .before in
-    let o = c .before .outcome .given .0 .0 in
-    let e = c .before .outcome .given .1 in
+    let o = c .before .before .outcome .given .0 .0 in
+    let e = c .before .before .outcome .given .1 in
     let h = fitting d _ e in
+    rw (c .told-at2 .ensures)
     record {
       told = sym (begun (r .before .before .before .before) ∙ ran r ∙ gave (array r) (count r) o _ _ _ h (d .before .before .if1 .left) (stepped d _ e));
       packet-within = given-within _ o (r .plain-run .ensures .held) h;
@@ -174,13 +183,18 @@ returns-2 c =
       clear = tt;
     }
 
+told-at-requires-3 : tie.Need-told-at-requires-3 Inv-loop μ-loop
+told-at-requires-3 c κs = search needs
+
 returns-3 : tie.Need-returns-3 Inv-loop μ-loop
 returns-3 c =
+    let l = c .before .before .loop in
+    rw (c .told-at3 .ensures)
     record {
-      told = rw (le-ltb limit _ (c .before .loop .inv .1)) (sym (begun (c .before .before) ∙ c .before .loop .inv .3 ∙ ended step _ _ _ _ (c .loop-test .left)));
+      told = rw (le-ltb limit _ (l .inv .1)) (sym (begun (c .before .before .before) ∙ l .inv .3 ∙ ended step _ _ _ _ (c .before .loop-test .left)));
       packet-within = tt;
-      count-within = c .before .loop .inv .1;
-      clear = c .before .loop .inv .2;
+      count-within = l .inv .1;
+      clear = l .inv .2;
     }
 
 pub read-in-spec : {M : Type 1} → statement M
@@ -194,6 +208,7 @@ read-in-spec =
     plain-run-requires
     add-count
     add-i
+    told-at-requires
     returns
     shared-slice-read-b
     add-i-2
@@ -210,5 +225,7 @@ read-in-spec =
     loop-less-3
     loop-again-3
     enum-known-outcome
+    told-at-requires-2
     returns-2
+    told-at-requires-3
     returns-3)
