@@ -1,5 +1,5 @@
 -- One damaged byte (demand 3): a frame with one damaged byte between its ENDs is refused, and one without is read.
--- Either way the reading goes on behind the END as from between packets.
+-- Either way the bytes behind the END give what they give from between packets.
 use Prim.Native.Nat.{ℕ, _≤_}
 use mathlib.Core.Path.{_≡_, refl, ap, _∙_}
 use mathlib.Core.List.{List, [], _∷_, _++_}
@@ -9,8 +9,8 @@ use Rattle.line.specs.Reader as line
 use Rattle.line.specs.Pieces.{NoEnd}
 use Rattle.frame.specs.Frame.{Refusal, Outcome, frame, refused, judge}
 use Rattle.frame.specs.JudgeLaws.{Accepted, judge-accepted}
-use Rattle.frame.specs.Reading.{END, escape, also, outcomes, final, State, plain, escaped, skipping, emptied, inside, verdict, step}
-use Rattle.frame.specs.ReadingLaws.{outcomes-closed, final-closed, closed-number, accepted-closes}
+use Rattle.frame.specs.Reading.{END, escape, also, outcomes, State, plain, escaped, skipping, emptied, inside, verdict, step}
+use Rattle.frame.specs.ReadingLaws.{outcomes-closed, closed-number, accepted-closes}
 use Rattle.frame.specs.Damage.{Damage, replaced, inserted, lost, further}
 use Rattle.frame.specs.EscapeLaws.{escape-sent, escape-no-end, decoded-sent}
 use Rattle.frame.specs.ChangeLaws.{Change, less, damage-change, change-refused}
@@ -46,17 +46,9 @@ damaged-refused f {w} e d =
     let k = closed-number (inside emptied w) n r in
     (n, k .0, k .1, λ rest. outcomes-closed emptied w rest x ∙ ap (λ (o : Option Outcome). also o (outcomes step emptied rest)) r)
 
--- and the reading goes on as from between packets
-pub damaged-final : {w : List ℕ} (f : List ℕ) → Damage (escape f) w → (rest : List ℕ) → final step emptied (w ++ END ∷ rest) ≡ final step emptied rest
-damaged-final {w} f d rest = final-closed emptied w rest (damaged-no-end f d)
-
 -- an undamaged one gives one outcome, the frame
 pub whole-read : (f : List ℕ) {c : ℕ} {d : List ℕ} → judge f ≡ frame c d
     → (rest : List ℕ) → outcomes step emptied (escape f ++ END ∷ rest) ≡ frame c d ∷ outcomes step emptied rest
 whole-read f e rest =
     outcomes-closed emptied (escape f) rest (escape-no-end f)
     ∙ ap (λ (o : Option Outcome). also o (outcomes step emptied rest)) (accepted-closes f e)
-
--- and the reading goes on as from between packets
-pub whole-final : (f rest : List ℕ) → final step emptied (escape f ++ END ∷ rest) ≡ final step emptied rest
-whole-final f rest = final-closed emptied (escape f) rest (escape-no-end f)

@@ -4,7 +4,7 @@ use Prim.Native.Nat.{ℕ, suc, _≤_}
 use mathlib.Core.Path.{_≡_, refl, sym, ap, _∙_}
 use mathlib.Core.List.{List, [], _∷_, _++_, map}
 use mathlib.Core.Bool.{Bool, true, false, cond}
-use mathlib.Core.Option.{Option, none, some}
+use mathlib.Core.Option.{Option, none, some, Option·none-ne-some}
 use native.Mathlib.Omega.{arith}
 use lib.ListN.{length}
 use lib.Dec.{eqb}
@@ -110,10 +110,6 @@ unfolding scan onward step line.step inside verdict
 read-closed s [] rest o n e = rw e
 read-closed s (b ∷ w) rest o n e = rw (ne-eqb b END (n .0), read-closed (inner s b) w rest o (n .1) e)
 
--- none is not some
-none-some : {A : Type 0} {a : A} → _≡_ {A = Option A} none (some a) → ⊥
-none-some e = let z : _≡_ {A = ℕ} 0 1 = cc in omega arith
-
 -- what stands alone is what was put before none
 also-one : {A : Type 0} (o : Option A) (a : A) → also o [] ≡ a ∷ [] → o ≡ some a
 also-one none a e = let z : _≡_ {A = ℕ} 0 1 = cc in absurd (omega arith)
@@ -146,7 +142,7 @@ unfolding step verdict
 step-resets s b o e = go (line.step s b .1) refl e
   where
     go : (x : Option line.Outcome) → line.step s b .1 ≡ x → verdict x ≡ some o → line.step s b .0 ≡ emptied
-    go none p q = absurd (none-some q)
+    go none p q = absurd (Option·none-ne-some o q)
     go (some y) p q = line-laws.step-resets s b y p
 
 -- ---- what an outcome says
@@ -158,12 +154,12 @@ step-closes s b o = go (eqb b END)
   where
     go : (t : Bool) → verdict (cond {A = State × Option line.Outcome} t (emptied, line.close s) (inner s b, none) .1) ≡ some o → verdict (line.close s) ≡ some o
     go true e = e
-    go false e = absurd (none-some e)
+    go false e = absurd (Option·none-ne-some o e)
 
 -- a frame is told of a packet that is accepted
 pub closed-frame : (s : State) {c : ℕ} {d : List ℕ} → verdict (line.close s) ≡ some (frame c d) → (h : List ℕ) × (s ≡ plain h) × (judge h ≡ frame c d)
 unfolding verdict line.close
-closed-frame (plain []) e = absurd (none-some e)
+closed-frame (plain []) {c} {d} e = absurd (Option·none-ne-some (frame c d) e)
 closed-frame (plain (b ∷ h)) e = (b ∷ h, refl, (cc))
 closed-frame (escaped h) e = let z : _≡_ {A = ℕ} 0 1 = cc in absurd (omega arith)
 closed-frame (skipping f) e = let z : _≡_ {A = ℕ} 0 1 = cc in absurd (omega arith)
@@ -176,7 +172,7 @@ fault-number TooLong = omega arith
 -- a refusal at an END has a number from 1 to 6
 pub closed-number : (s : State) (n : Refusal) → verdict (line.close s) ≡ some (refused n) → (1 ≤ n) × (n ≤ 6)
 unfolding verdict line.close
-closed-number (plain []) n e = absurd (none-some e)
+closed-number (plain []) n e = absurd (Option·none-ne-some (refused n) e)
 closed-number (plain (b ∷ h)) n e = let x = refused-number (b ∷ h) n (cc) in omega arith
 closed-number (escaped h) n e = let x : line.refusal (line.wrongEscape h) ≡ n = cc in rw x at (fault-number (line.wrongEscape h))
 closed-number (skipping f) n e = let x : line.refusal f ≡ n = cc in rw x at (fault-number f)
@@ -188,7 +184,7 @@ outcome-number s b n e = closed-number s n (step-closes s b (refused n) e)
 -- the outcome of a call is that of some piece
 pub read-told : (s : State) (w : List ℕ) (o : Outcome) → read s w .outcome ≡ some o → (t : State) × (verdict (line.close t) ≡ some o)
 unfolding scan onward
-read-told s [] o e = absurd (none-some e)
+read-told s [] o e = absurd (Option·none-ne-some o e)
 read-told s (b ∷ w) o e = go (step s b .1) refl e (read-told (step s b .0) w o)
   where
     go : (x : Option Outcome) → step s b .1 ≡ x → onward (step s b .0) x (read (step s b .0) w) .outcome ≡ some o

@@ -5,8 +5,7 @@ use mathlib.Core.List.{List, [], _∷_, _++_}
 use native.Mathlib.Omega.{arith}
 use native.Mathlib.Nat.{mod-lt}
 use lib.Arith.{bin-ind}
-use lib.Bits.{bitXor, differ, xor-step, xor-zero-r, xor-comm, xor-self, xor-lt, xor-shr, xor-mod}
-use Rattle.line.specs.Pieces.{Bytes}
+use lib.Bits.{bitXor, differ, xor-step, xor-zero-r, xor-comm, xor-self, xor-shr, xor-mod}
 use Rattle.frame.specs.Xor.{_⊕_, xorAll}
 
 -- ---- by binary digits
@@ -107,9 +106,3 @@ xorAll-append (x ∷ a) b = ap (λ (n : ℕ). x ⊕ n) (xorAll-append a b) ∙ s
 pub xorAll-snoc : (a : List ℕ) (v : ℕ) → xorAll (a ++ v ∷ []) ≡ xorAll a ⊕ v
 unfolding xorAll
 xorAll-snoc a v = xorAll-append a (v ∷ []) ∙ ap (λ (n : ℕ). xorAll a ⊕ n) (⊕-zero v)
-
--- that of bytes is a byte
-pub xorAll-byte : (l : List ℕ) → Bytes l → xorAll l < 256
-unfolding xorAll _⊕_
-xorAll-byte [] x = omega arith
-xorAll-byte (b ∷ l) x = xor-lt 8 b (xorAll l) (x .0) (xorAll-byte l (x .1))
