@@ -1,7 +1,7 @@
 -- What the frame layer's private functions answer.
-use Prim.Native.Nat.{ℕ, _+_, _/_, _%_}
+use Prim.Native.Nat.{ℕ}
 use mathlib.Core.Path.{_≡_}
-use mathlib.Core.List.{List, [], _∷_}
+use mathlib.Core.List.{List}
 use lib.ListN.{length}
 use Rattle.line.specs.declared.Fault.{Fault}
 use Rattle.line.specs.declared.Fault.the-variants as fault
@@ -14,6 +14,8 @@ use Rattle.frame.specs.declared.Judged.{Judged}
 use Rattle.frame.specs.declared.Judged.the-variants as judged
 use Rattle.frame.specs.declared.Outcome.{Outcome}
 use Rattle.frame.specs.declared.Outcome.the-variants as given
+use Rattle.frame.specs.Xor.{_⊕_, xorAll}
+use Rattle.frame.specs.Frame.{headOf}
 use Rattle.frame.specs.Reading.{verdict}
 use Rattle.frame.specs.Answers.{told, Within}
 
@@ -33,6 +35,6 @@ pub record Judging (bs : List ℕ) (g : Got) (r : Outcome) : Type 0 where
   pub within : Within r
   pub full : length bs ≡ limit
 
--- `head_of` of the crate `writer`: the bytes before n data bytes
-abbrev pub headOf : ℕ → ℕ → List ℕ
-headOf c n = 0 ∷ (n + 3) ∷ c / 256 ∷ c % 256 ∷ []
+-- `check_of` of the crate `writer`: the check byte, from the head's and the data's
+abbrev pub check : ℕ → List ℕ → ℕ
+check c d = xorAll (headOf c (length d)) ⊕ xorAll d

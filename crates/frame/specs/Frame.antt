@@ -5,19 +5,19 @@ use mathlib.Core.Bool.{Bool, cond}
 use lib.ListN.{length, take, drop, getD}
 use lib.Dec.{leb, eqb}
 use Rattle.line.specs.Wire.{END}
+use Rattle.line.specs.declared.Fault.the-variants as fault
+use Rattle.line.specs.Reader as line
 use Rattle.line.specs.Reader.{limit}
 use Rattle.frame.specs.declared.Refusal.{Refusal as Cause}
 use Rattle.frame.specs.declared.Refusal.the-variants.{WrongEscape, TooLong, TooShort, WrongProtocol, WrongLength, WrongCheck}
 use Rattle.frame.specs.Xor.{xorAll}
+pub use Rattle.line.specs.Reader.{Refusal}
 unfoldable pub use Rattle.line.specs.Wire.{escape}
 
--- what a packet refusal tells: document 01's number of its cause
-abbrev pub Refusal : Type 0
-Refusal = ℕ
-
+-- document 01's number of a packet refusal's cause; the line reader's faults have theirs
 abbrev pub refusal : Cause → Refusal
-refusal WrongEscape = 1
-refusal TooLong = 2
+refusal WrongEscape = line.refusal fault.WrongEscape
+refusal TooLong = line.refusal fault.TooLong
 refusal TooShort = 3
 refusal WrongProtocol = 4
 refusal WrongLength = 5
@@ -40,9 +40,13 @@ head = 4
 abbrev pub around : ℕ
 around = 5
 
--- protocol byte 0, length L, command high byte first, data. L counts command, data and check byte
+-- before n data bytes: protocol byte 0, length L, command high byte first. L counts command, data and check byte
+abbrev pub headOf : ℕ → ℕ → List ℕ
+headOf c n = 0 ∷ (n + 3) ∷ c / 256 ∷ c % 256 ∷ []
+
+-- the head, then the data
 unfoldable pub body : ℕ → List ℕ → List ℕ
-body c d = 0 ∷ (length d + 3) ∷ c / 256 ∷ c % 256 ∷ d
+body c d = headOf c (length d) ++ d
 
 -- the check byte is the exclusive or of all bytes before it
 unfoldable pub framed : ℕ → List ℕ → List ℕ

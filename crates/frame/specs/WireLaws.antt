@@ -9,25 +9,16 @@ use lib.ListN.{length, drop, length-append}
 use lib.Dec.{ltb}
 use Rattle.line.specs.Wire.{END, escape}
 use Rattle.line.specs.WireLaws.{escape-append, escape-short}
-use Rattle.frame.specs.Xor.{_⊕_, xorAll}
 use Rattle.frame.specs.XorLaws.{xorAll-append}
-use Rattle.frame.specs.Frame.{maxData, body, framed, wire}
+use Rattle.frame.specs.Frame.{maxData, headOf, body, framed, wire}
 use Rattle.frame.specs.declared.Written.{Written}
 use Rattle.frame.specs.declared.Written.the-variants as written
 use Rattle.frame.specs.Writing.{minRoom, refusalOf, Wire, write}
-use Rattle.frame.specs.Code.{headOf}
-
--- the check byte, from the head's and the data's
-abbrev pub check : ℕ → List ℕ → ℕ
-check c d = xorAll (headOf c (length d)) ⊕ xorAll d
-
-body-parts : (c : ℕ) (d : List ℕ) → body c d ≡ headOf c (length d) ++ d
-unfolding body
-body-parts c d = refl
+use Rattle.frame.specs.Code.{check}
 
 framed-parts : (c : ℕ) (d : List ℕ) → framed c d ≡ headOf c (length d) ++ d ++ check c d ∷ []
-unfolding framed
-framed-parts c d = rw (body-parts, xorAll-append)
+unfolding framed body
+framed-parts c d = rw xorAll-append
 
 -- the parts of a wire form, in the order in which they are written
 pub wire-parts : (c : ℕ) (d : List ℕ)

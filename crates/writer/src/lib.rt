@@ -6,8 +6,8 @@ ghost use Prim.Native.Nat.{_+_, _≤_};
 ghost use mathlib.Core.List.{[], _∷_};
 ghost use lib.ListN.{length};
 ghost use Rattle.store.specs.Wrote.{Wrote};
-ghost use Rattle.frame.specs.Frame.{maxData, escape, wire};
-ghost use Rattle.frame.specs.Code.{headOf};
+ghost use Rattle.frame.specs.Frame.{maxData, headOf, escape, wire};
+ghost use Rattle.frame.specs.Code.{check};
 ghost use Rattle.frame.specs.Writing.{write, writeAt, Writes};
 use frame::DATA;
 use frame::Written;
@@ -50,7 +50,7 @@ fn wire_len(command: u16, payload: &[u8]) -> usize
     ensures { λ r. ⌜ r ≡ length (wire command (now (payload .entry))) ⌝ }
 {
     let head = head_of(command, payload.len());
-    let check = [checks::xor_all(&head) ^ checks::xor_all(payload)];
+    let check = [check_of(command, payload)];
     escaped_len(&head) + escaped_len(payload) + escaped_len(&check) + 2
 }
 
@@ -60,13 +60,22 @@ fn put_wire(room: &mut [u8], start: usize, command: u16, payload: &[u8]) -> usiz
     ensures { λ r. ⌜ Wrote (now (room .entry)) start (wire command (now (payload .entry))) (now (room .exit)) r ⌝ }
 {
     let head = head_of(command, payload.len());
-    let check = [checks::xor_all(&head) ^ checks::xor_all(payload)];
+    let check = [check_of(command, payload)];
     room[start] = line::END;
     let a = put_all(room, start + 1, &head);
     let b = put_all(room, a, payload);
     let e = put_all(room, b, &check);
     room[e] = line::END;
     e + 1
+}
+
+// The check byte: the exclusive or of all bytes before it.
+fn check_of(command: u16, payload: &[u8]) -> u8
+    requires { ⌜ length (now payload) ≤ maxData ⌝ }
+    ensures { λ r. ⌜ r ≡ check command (now (payload .entry)) ⌝ }
+{
+    let head = head_of(command, payload.len());
+    checks::xor_all(&head) ^ checks::xor_all(payload)
 }
 
 // Protocol byte, length and command of a frame with n data bytes.

@@ -1,15 +1,13 @@
-use Rattle.writer.proofs.Laws.{check-byte}
 use Prim.Native.Nat.{ℕ, _+_, _≤_}
 use mathlib.Core.Path.{_≡_, ap, _∙_}
 use mathlib.Core.List.{List, [], _∷_}
 use native.Mathlib.Omega.{arith}
 use lib.ListN.{length}
-use lib.Bits.{bitXor}
 use Rattle.line.specs.Wire.{escape}
-use Rattle.frame.specs.Frame.{wire}
-use Rattle.frame.specs.Code.{headOf}
+use Rattle.frame.specs.Frame.{headOf, wire}
+use Rattle.frame.specs.Code.{check}
 use Rattle.frame.specs.Writing.{minRoom}
-use Rattle.frame.specs.WireLaws.{check, wire-length, wire-fits}
+use Rattle.frame.specs.WireLaws.{wire-length, wire-fits}
 use borrow.Author.Needs.{needs}
 use Rattle.writer.proofs.wire_len.Statement.{statement}
 use Rattle.writer.proofs.wire_len.Tie as tie
@@ -27,35 +25,26 @@ module _ (s : tie.Start) where
   fits = wire-fits command payload (s .pre)
 
 -- the head, escaped
-head-len : (c : tie.After-escaped-len) → let s : tie.Start = c .before .before .before .before .before .before .before in c .escaped-len .result ≡ length (escape (headOf (command s) (length (payload s))))
-head-len c = c .escaped-len .ensures ∙ ap (λ (l : List ℕ). length (escape l)) (c .before .before .before .before .before .head-of .ensures)
+head-len : (c : tie.After-escaped-len) → let s : tie.Start = c .before .before .before .before .before in c .escaped-len .result ≡ length (escape (headOf (command s) (length (payload s))))
+head-len c = c .escaped-len .ensures ∙ ap (λ (l : List ℕ). length (escape l)) (c .before .before .before .head-of .ensures)
 
--- the check byte
-checked : (c : tie.After-xor-all2) → let s : tie.Start = c .before .before .before .before .before in bitXor (c .before .xor-all .result) (c .xor-all2 .result) ≡ check (command s) (payload s)
-checked c = check-byte _ _ _ _ _ (c .before .before .before .head-of .ensures) (c .before .xor-all .ensures) (c .xor-all2 .ensures)
-
-check-len : (c : tie.After-escaped-len3) → let s : tie.Start = c .before .before .before .before .before .before .before .before .before .before in c .escaped-len3 .result ≡ length (escape (check (command s) (payload s) ∷ []))
-check-len c = c .escaped-len3 .ensures ∙ ap (λ (n : ℕ). length (escape (n ∷ []))) (checked (c .before .before .before .before .before))
+-- the check byte, escaped
+check-len : (c : tie.After-escaped-len3) → let s : tie.Start = c .before .before .before .before .before .before .before .before in c .escaped-len3 .result ≡ length (escape (check (command s) (payload s) ∷ []))
+check-len c = c .escaped-len3 .ensures ∙ ap (λ (n : ℕ). length (escape (n ∷ []))) (c .before .before .before .before .before .check-of .ensures)
 
 -- what the parts come to
 whole : (c : tie.After-escaped-len3)
-    → let s : tie.Start = c .before .before .before .before .before .before .before .before .before .before in
+    → let s : tie.Start = c .before .before .before .before .before .before .before .before in
     c .before .before .before .escaped-len .result + c .before .before .escaped-len2 .result + c .escaped-len3 .result + 2 ≡ length (wire (command s) (payload s))
 whole c =
-    let s = c .before .before .before .before .before .before .before .before .before .before in
+    let s = c .before .before .before .before .before .before .before .before in
     omega (arith, head-len (c .before .before .before), c .before .before .escaped-len2 .ensures, check-len c, wire-length (command s) (payload s))
 
 head-of-requires : tie.Need-head-of-requires
 head-of-requires c κs = search needs
 
-slice-aggregate-xor-all : tie.Need-slice-aggregate-xor-all
-slice-aggregate-xor-all c = search needs
-
-xor-all-requires : tie.Need-xor-all-requires
-xor-all-requires c κs = search needs
-
-xor-all-requires-2 : tie.Need-xor-all-requires-2
-xor-all-requires-2 c κs = search needs
+check-of-requires : tie.Need-check-of-requires
+check-of-requires c κs = search needs
 
 slice-aggregate-escaped-len : tie.Need-slice-aggregate-escaped-len
 slice-aggregate-escaped-len c = search needs
@@ -68,7 +57,7 @@ escaped-len-requires-2 c κs = search needs
 
 add-result : tie.Need-add-result
 add-result c =
-    let s = c .before .before .before .before .before .before .before .before in
+    let s = c .before .before .before .before .before .before in
     omega (arith, head-len (c .before), c .escaped-len2 .ensures, wire-length (command s) (payload s), fits s)
 
 slice-aggregate-escaped-len-2 : tie.Need-slice-aggregate-escaped-len-2
@@ -78,10 +67,10 @@ escaped-len-requires-3 : tie.Need-escaped-len-requires-3
 escaped-len-requires-3 c κs = search needs
 
 add-result-2 : tie.Need-add-result-2
-add-result-2 c = omega (arith, whole c, fits (c .before .before .before .before .before .before .before .before .before .before))
+add-result-2 c = omega (arith, whole c, fits (c .before .before .before .before .before .before .before .before))
 
 add-result-3 : tie.Need-add-result-3
-add-result-3 c = omega (arith, whole c, fits (c .before .before .before .before .before .before .before .before .before .before))
+add-result-3 c = omega (arith, whole c, fits (c .before .before .before .before .before .before .before .before))
 
 returns : tie.Need-returns
 returns c = whole c
@@ -91,9 +80,7 @@ wire-len-spec =
     tie.close
     (tie.spec
     head-of-requires
-    slice-aggregate-xor-all
-    xor-all-requires
-    xor-all-requires-2
+    check-of-requires
     slice-aggregate-escaped-len
     escaped-len-requires
     escaped-len-requires-2
