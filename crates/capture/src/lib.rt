@@ -4,7 +4,6 @@
 ghost use Prim.Native.Nat.{_≤_};
 ghost use mathlib.Core.Path.{_≡_};
 ghost use lib.ListN.{length};
-ghost use Rattle.frame.specs.Line.{placeOf, Takes};
 ghost use Rattle.frame.specs.Reading.{taken};
 ghost use Rattle.lister.specs.Lists.{Lists, listedOf};
 use line::Place;
@@ -12,14 +11,14 @@ use line::Reading;
 use lister::Listed;
 
 // No line is longer: with that much room a call goes on.
-pub const LINE: usize = lines::LINE;
+const LINE: usize = lines::LINE;
 
 // Writes the lines of the outcomes of `wire` to the front of `out`, as long as there is room for any line.
 pub fn list(reading: Reading, left: u64, wire: &[u8], out: &mut [u8]) -> Listed
     ensures { λ r. ⌜ Lists (taken reading) left (now (wire .entry)) (now (out .entry)) (now (out .exit)) r ⌝ }
 {
     let mut bytes = reading.bytes;
-    let mut place = place_of(reading);
+    let mut place = escape::taken_place(reading);
     let mut at = 0;
     let mut written = 0;
     while at < wire.len() {
@@ -35,13 +34,6 @@ pub fn list(reading: Reading, left: u64, wire: &[u8], out: &mut [u8]) -> Listed
         at += used;
     }
     answer(bytes, place, left, wire, at, written)
-}
-
-// The place that a lent record is taken at, so that the record given back claims no more than it holds.
-fn place_of(reading: Reading) -> Place
-    ensures { λ r. ⌜ Takes (placeOf reading) r ⌝ }
-{
-    escape::taken_at(escape::place_of(reading))
 }
 
 // The answer where the bytes before `at` were used.

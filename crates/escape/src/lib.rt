@@ -24,7 +24,7 @@ pub fn place_of(reading: Reading) -> Place
     Place { count, mode }
 }
 
-// The place that a lent record is taken at.
+// The place that a lent record is taken at: none claims more bytes than there are, or any while it skips.
 pub fn taken_at(place: Place) -> Place
     ensures { λ r. ⌜ Takes place r ⌝ }
 {
@@ -44,6 +44,13 @@ pub fn taken_at(place: Place) -> Place
             mode: Mode::Skipping(fault),
         },
     }
+}
+
+// The place that a lent record is taken at, of the whole record: one that is given back from there claims no more than it holds.
+pub fn taken_place(reading: Reading) -> Place
+    ensures { λ r. ⌜ Takes (placeOf reading) r ⌝ }
+{
+    taken_at(place_of(reading))
 }
 
 // What one byte asks for, where so many bytes are held.

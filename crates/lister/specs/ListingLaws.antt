@@ -64,8 +64,8 @@ given-short (given.Refused r) x = refusedLine-short (refusal r) (small r)
 
 -- ---- one call more
 
--- of the bytes w, n were used; a call on the rest uses some more
-pub record Turn (s : State) (w : List ℕ) (n : ℕ) (bs : List ℕ) (t : Told) : Type 0 where
+-- of the bytes w, n were used; a call on the rest uses some more, and tells what they add
+pub record MoreUsed (s : State) (w : List ℕ) (n : ℕ) (bs : List ℕ) (t : Told) : Type 0 where
   pub some : 0 < t .used
   pub within : n + t .used ≤ length w
   pub state : takenAs bs (t .place .count) (t .place .mode) ≡ final step s (take (n + t .used) w)
@@ -75,9 +75,9 @@ pub record Turn (s : State) (w : List ℕ) (n : ℕ) (bs : List ℕ) (t : Told) 
   pub short : length (givenLine (t .outcome)) ≤ LINE
   pub lines : lines (outcomes step s (take (n + t .used) w)) ≡ lines (outcomes step s (take n w)) ++ givenLine (t .outcome)
 
-pub turn : (s r : State) (w : List ℕ) (n : ℕ) (bs : List ℕ) (t : Told) → n < length w → r ≡ final step s (take n w)
-    → Answers (read r (take (length w - n) (drop n w))) (answerOf bs t) → Turn s w n bs t
-turn s r w n bs t h e a =
+pub more-used : (s r : State) (w : List ℕ) (n : ℕ) (bs : List ℕ) (t : Told) → n < length w → r ≡ final step s (take n w)
+    → Answers (read r (take (length w - n) (drop n w))) (answerOf bs t) → MoreUsed s w n bs t
+more-used s r w n bs t h e a =
     let v : List ℕ = drop n w in
     let d : take (length w - n) v ≡ v = rest w n in
     let x : Tells step r v (seen (answerOf bs t)) = rw (a .told) (rw d (scan-tells step r v)) in
@@ -124,7 +124,7 @@ pub left-more : (k : ℕ) (w : List ℕ) (j : ℕ) → j < length w → leftAfte
 unfolding leftAfter
 left-more k w j h = ap (leftAfter k) (take-suc w j 0 h) ∙ left-append k (take j w) (getD w j 0 ∷ [])
 
--- no byte is counted twice where none is behind
+-- at the loop's start nothing is behind the last byte
 pub whole-left : (k : ℕ) (w : List ℕ) → leftAfter k w ≡ leftAfter k (take (length w) w) + (length w - length w)
 whole-left k w = rw (take-length w) (omega arith)
 
@@ -172,7 +172,7 @@ going-none w l bs full t = record {
 }
 
 pub going-more : {s : State} {w before after more bs cs : List ℕ} {p : Place} {n k j : ℕ} {t : Told} → Going s w before after bs p n k
-    → Turn s w n cs t → k + LINE ≤ length after → Leaves (appended after k (givenLine (t .outcome))) more j → Going s w before more cs (t .place) (n + t .used) j
+    → MoreUsed s w n cs t → k + LINE ≤ length after → Leaves (appended after k (givenLine (t .outcome))) more j → Going s w before more cs (t .place) (n + t .used) j
 going-more {after = after} {k = k} {t = t} g x room y =
     let h : k + length (givenLine (t .outcome)) ≤ length after = omega (arith, x .short) in
     let z = leaves-wrote h y in

@@ -6,10 +6,12 @@ use lib.ListN.{length}
 use borrow.Author.Needs.{needs}
 use Rattle.store.specs.WroteLaws.{kept}
 use Rattle.frame.specs.Reading.{takenAs, taken}
-use Rattle.lister.specs.ListingLaws.{takes-state, Turn, turn, Going, going-none, going-more, going-lists}
+use Rattle.lister.specs.ListingLaws.{takes-state, MoreUsed, more-used, Going, going-none, going-more, going-lists}
 use Rattle.capture.proofs.list.Statement.{statement}
 use Rattle.capture.proofs.list.Tie as tie
 
+-- What was used and written so far is what the definition gives of those bytes. A call on the rest uses at least one byte more, and its
+-- line fits, for there is room for any line.
 abbrev Inv-loop : tie.InvT-loop
 Inv-loop left wire out₀ bytes₀ place₀ at₀ written₀ out bytes place at written = Going (takenAs bytes₀ (place₀ .count) (place₀ .mode)) wire out₀ out bytes place at written
 
@@ -17,21 +19,21 @@ abbrev μ-loop : tie.MeasureT-loop
 μ-loop left wire out₀ bytes₀ place₀ at₀ written₀ out bytes place at written = length wire - at
 
 -- the state that the lent record is taken as
-started : (c : tie.After-place-of Inv-loop μ-loop)
-    → taken (c .before .before .before .before .args .reading) ≡ takenAs (c .before .before .before .before .args .reading .bytes) (c .place-of .result .count) (c .place-of .result .mode)
-started c = sym (takes-state _ _ _ (c .place-of .ensures))
+started : (c : tie.After-taken-place Inv-loop μ-loop)
+    → taken (c .before .before .before .before .args .reading) ≡ takenAs (c .before .before .before .before .args .reading .bytes) (c .taken-place .result .count) (c .taken-place .result .mode)
+started c = sym (takes-state _ _ _ (c .taken-place .ensures))
 
 -- a call on the rest of the bytes
-turned : (c : tie.After-read-in Inv-loop μ-loop)
-    → Turn (takenAs (c .before .before .before .before .before .before .before .before .before .before .args .reading .bytes) (c .before .before .before .before .before .before .place-of .result .count) (c .before .before .before .before .before .before .place-of .result .mode))
+rest-used : (c : tie.After-read-in Inv-loop μ-loop)
+    → MoreUsed (takenAs (c .before .before .before .before .before .before .before .before .before .before .args .reading .bytes) (c .before .before .before .before .before .before .taken-place .result .count) (c .before .before .before .before .before .before .taken-place .result .mode))
     (c .before .before .before .before .before .before .before .before .before .before .args .wire .now) (c .before .before .before .before .before .loop .at) (c .read-in .last .0) (c .read-in .result)
-turned c = turn _ _ _ _ _ _ (c .before .before .before .before .loop-test .taken) (c .before .before .before .before .before .loop .inv .state) (c .read-in .ensures)
+rest-used c = more-used _ _ _ _ _ _ (c .before .before .before .before .loop-test .taken) (c .before .before .before .before .before .loop .inv .state) (c .read-in .ensures)
 
-place-of-requires : tie.Need-place-of-requires Inv-loop μ-loop
-place-of-requires c κs = search needs
+taken-place-requires : tie.Need-taken-place-requires Inv-loop μ-loop
+taken-place-requires c κs = search needs
 
 loop-holds : tie.Need-loop-holds Inv-loop μ-loop
-loop-holds c = going-none _ _ _ (search needs) (c .place-of .ensures)
+loop-holds c = going-none _ _ _ (search needs) (c .taken-place .ensures)
 
 sub-if1 : tie.Need-sub-if1 Inv-loop μ-loop
 sub-if1 c = let g = c .before .loop .inv .fits in omega (arith, kept (c .before .loop .inv .wrote))
@@ -61,15 +63,15 @@ outcome-line-requires : tie.Need-outcome-line-requires Inv-loop μ-loop
 outcome-line-requires c κs = search needs
 
 add-at : tie.Need-add-at Inv-loop μ-loop
-add-at c = let x = turned (c .before .before .before .before .before) in omega (arith, x .within)
+add-at c = let x = rest-used (c .before .before .before .before .before) in omega (arith, x .within)
 
 loop-less : tie.Need-loop-less Inv-loop μ-loop
-loop-less c = let x = turned (c .before .before .before .before .before) in omega (arith, x .within, x .some)
+loop-less c = let x = rest-used (c .before .before .before .before .before) in omega (arith, x .within, x .some)
 
 loop-again : tie.Need-loop-again Inv-loop μ-loop
 loop-again c =
     let g = c .before .before .before .before .before .before .before .before .before .before .loop .inv in
-    going-more g (turned (c .before .before .before .before .before)) (omega (arith, g .fits, kept (g .wrote), c .before .before .before .before .before .before .before .before .if1 .left)) (c .before .before .outcome-line .ensures)
+    going-more g (rest-used (c .before .before .before .before .before)) (omega (arith, g .fits, kept (g .wrote), c .before .before .before .before .before .before .before .before .if1 .left)) (c .before .before .outcome-line .ensures)
 
 answer-requires-2 : tie.Need-answer-requires-2 Inv-loop μ-loop
 answer-requires-2 c κs = c .before .loop .inv .within
@@ -86,7 +88,7 @@ list-spec =
     (tie.spec
     Inv-loop
     μ-loop
-    place-of-requires
+    taken-place-requires
     loop-holds
     sub-if1
     answer-requires

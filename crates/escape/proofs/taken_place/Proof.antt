@@ -1,6 +1,6 @@
 use borrow.Author.Needs.{needs}
-use Rattle.capture.proofs.place_of.Statement.{statement}
-use Rattle.capture.proofs.place_of.Tie as tie
+use Rattle.escape.proofs.taken_place.Statement.{statement}
+use Rattle.escape.proofs.taken_place.Tie as tie
 
 place-of-requires : tie.Need-place-of-requires
 place-of-requires c κs = search needs
@@ -11,5 +11,5 @@ taken-at-requires c κs = search needs
 returns : tie.Need-returns
 returns c = rw (c .before .place-of .ensures) at (c .taken-at .ensures)
 
-pub place-of-spec : {M : Type 1} → statement M
-place-of-spec = tie.close (tie.spec place-of-requires taken-at-requires returns)
+pub taken-place-spec : {M : Type 1} → statement M
+taken-place-spec = tie.close (tie.spec place-of-requires taken-at-requires returns)
