@@ -75,6 +75,7 @@ fn main() {
         left: 0,
         going: true,
     };
+    // Enough for any input: each turn but the last reads at least one byte.
     let mut turns: u64 = 18446744073709551615;
     while 0 < turns {
         let next = turn(state);

@@ -7,6 +7,7 @@ use Rattle.lister.specs.ListingLaws.{lists-some}
 use Rattle.listing.proofs.list_part.Statement.{statement}
 use Rattle.listing.proofs.list_part.Tie as tie
 
+-- The buffer has room for any line, so each call uses at least one of the bytes left.
 abbrev Inv-loop : tie.InvT-loop
 Inv-loop left wire r₀ k₀ at₀ out₀ r k at out = (at ≤ length wire) × (length out ≡ 65536)
 

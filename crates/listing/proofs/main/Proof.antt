@@ -2,6 +2,7 @@ use borrow.Author.Needs.{needs}
 use Rattle.listing.proofs.main.Statement.{statement}
 use Rattle.listing.proofs.main.Tie as tie
 
+-- Nothing has to be kept: the turns are counted down, and that the listing goes on is asked of each turn.
 abbrev Inv-loop : tie.InvT-loop
 Inv-loop state₀ turns₀ state turns = Unit {0}
 

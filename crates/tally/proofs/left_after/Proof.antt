@@ -12,6 +12,7 @@ use Rattle.lister.specs.ListingLaws.{left-more, whole-left}
 use Rattle.tally.proofs.left_after.Statement.{statement}
 use Rattle.tally.proofs.left_after.Tie as tie
 
+-- From the last byte back to the place i there is no END, so each of those bytes counts one on top of what stands before i.
 abbrev Inv-loop : tie.InvT-loop
 Inv-loop left wire n i₀ i = (i ≤ length wire) × (leftAfter left wire ≡ leftAfter left (take i wire) + (length wire - i))
 
