@@ -33,22 +33,6 @@ pub fn read(reading: Reading, wire: &[u8]) -> Answer
     answer_of(bytes, told)
 }
 
-// An answer with its bytes.
-fn answer_of(bytes: [u8; line::LIMIT], told: Told) -> Answer
-    ensures { λ r. ⌜ r ≡ answerOf bytes told ⌝ }
-{
-    let used = told.used;
-    let outcome = told.outcome;
-    let place = told.place;
-    let count = place.count;
-    let mode = place.mode;
-    Answer {
-        used: used,
-        outcome: outcome,
-        reading: Reading { bytes, count, mode },
-    }
-}
-
 // The same on a reading whose bytes stay where they lie: nothing is copied.
 pub fn read_in(bytes: &mut [u8; line::LIMIT], place: Place, wire: &[u8]) -> Told
     ensures { λ r. ⌜ Answers (read (takenAs (now (bytes .entry)) (place .count) (place .mode)) (now (wire .entry))) (answerOf (now (bytes .exit)) r) ⌝ }
@@ -62,6 +46,22 @@ pub fn read_in(bytes: &mut [u8; line::LIMIT], place: Place, wire: &[u8]) -> Told
         used: used,
         outcome: outcome,
         place: after,
+    }
+}
+
+// An answer with its bytes.
+fn answer_of(bytes: [u8; line::LIMIT], told: Told) -> Answer
+    ensures { λ r. ⌜ r ≡ answerOf bytes told ⌝ }
+{
+    let used = told.used;
+    let outcome = told.outcome;
+    let place = told.place;
+    let count = place.count;
+    let mode = place.mode;
+    Answer {
+        used: used,
+        outcome: outcome,
+        reading: Reading { bytes, count, mode },
     }
 }
 
