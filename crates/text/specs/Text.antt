@@ -16,7 +16,7 @@ unfoldable pub digit : ℕ → ℕ
 digit d = cond (ltb d 10) (48 + d) (55 + d)
 
 -- A number in base ten with no leading zero: below ten its one digit, else its tens and then its ones. Each step goes
--- from a number to its tens; n of them are enough for n.
+-- from a number to its tens; n of them are enough for n, and the test comes first, so that no more are computed than there are digits.
 unfoldable pub decimalIn : ℕ → ℕ → List ℕ
 decimalIn zero n = digit n ∷ []
 decimalIn (suc steps) n = elim (ltb n 10) [ true ↦ digit n ∷ [] | false ↦ decimalIn steps (n / 10) ++ (digit (n % 10) ∷ []) ]
