@@ -110,7 +110,7 @@ fn show_reading(out: &mut [u8], at: usize, k: u8, reading: Reading) -> usize
     ensures { λ r. ⌜ Leaves (appendedAll (now (out .entry)) at (readingLines k (taken reading))) (now (out .exit)) r ⌝ }
 {
     let bytes = reading.bytes;
-    let place = escape::taken_at(escape::place_of(reading));
+    let place = escape::taken_place(reading);
     let mode = place.mode;
     let n = place.count;
     shows::reading_line(out, at, k, mode_of(mode), &bytes[0..n])

@@ -10,11 +10,8 @@ use Rattle.transcript.specs.StateLaws.{held-at, modeOf-at}
 use Rattle.showing.proofs.show_reading.Statement.{statement}
 use Rattle.showing.proofs.show_reading.Tie as tie
 
-place-of-requires : tie.Need-place-of-requires
-place-of-requires c κs = search needs
-
-taken-at-requires : tie.Need-taken-at-requires
-taken-at-requires c κs = search needs
+taken-place-requires : tie.Need-taken-place-requires
+taken-place-requires c κs = search needs
 
 mode-of-requires : tie.Need-mode-of-requires
 mode-of-requires c κs = search needs
@@ -27,8 +24,8 @@ part-reading-line-start c = search needs
 
 part-reading-line-end : tie.Need-part-reading-line-end
 part-reading-line-end c =
-    let long : length (c .before .before .before .before .before .before .before .args .reading .bytes) ≡ limit = search needs in
-    omega (arith, c .before .before .before .taken-at .ensures .within, long)
+    let long : length (c .before .before .before .before .before .before .args .reading .bytes) ≡ limit = search needs in
+    omega (arith, c .before .before .before .taken-place .ensures .within, long)
 
 reading-line-requires : tie.Need-reading-line-requires
 reading-line-requires c κs = search needs
@@ -39,9 +36,9 @@ same-length c = search needs
 returns : tie.Need-returns
 unfolding readingLines
 returns c =
-    let r = c .before .before .before .before .before .before .before .before .before .before .before .args .reading in
-    let p = c .before .before .before .before .before .before .before .taken-at in
-    let state = rw (c .before .before .before .before .before .before .before .before .place-of .ensures) at (p .ensures .state (r .bytes)) in
+    let r = c .before .before .before .before .before .before .before .before .before .before .args .reading in
+    let p = c .before .before .before .before .before .before .before .taken-place in
+    let state = p .ensures .state (r .bytes) in
     let whole : p .result .count - 0 ≡ p .result .count = omega arith in
     let line = rw (whole, c .before .before .before .before .before .mode-of .ensures) at (c .before .before .reading-line .ensures) in
     rw (← state, held-at (r .bytes) (p .result .count) (p .result .mode) (p .ensures .clear), modeOf-at _ (p .result .mode)) (all-one _ _ _ line)
@@ -50,8 +47,7 @@ pub show-reading-spec : {M : Type 1} → statement M
 show-reading-spec =
     tie.close
     (tie.spec
-    place-of-requires
-    taken-at-requires
+    taken-place-requires
     mode-of-requires
     sub-reading-line
     part-reading-line-start
