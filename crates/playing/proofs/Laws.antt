@@ -15,15 +15,14 @@ use Rattle.store.specs.WroteLaws.{front-to, take-min}
 use Rattle.line.specs.declared.Reading.{Reading}
 use Rattle.frame.specs.Reading.{emptiedReading, taken}
 use Rattle.feeds.specs.Service as service
-use Rattle.feeds.specs.Service.{Promise}
 use Rattle.feeds.specs.ServiceLaws.{map-set, promise-feed}
 use Rattle.rules.specs.declared.Hub.{Hub}
-use Rattle.rules.specs.Hub as rules
-use Rattle.rules.specs.Promises.{Starts, Enrols, Closes, Finishes}
+use Rattle.rules.specs.Promises.{Starts, Enrols, Finishes}
 use Rattle.calls.specs.declared.CallAnswer.{CallAnswer}
 use Rattle.calls.specs.declared.FinishAnswer.{FinishAnswer}
 use Rattle.calls.specs.declared.FeedAnswer.{FeedAnswer}
-use Rattle.calls.specs.Answers.{startedOf, enrolledOf, closedOf, finishedOf, fedOf, BoundedFed}
+use Rattle.calls.specs.Answers.{startedOf, enrolledOf, finishedOf}
+use Rattle.calls.specs.Promises.{ClosesByValue, FeedsByValue}
 use Rattle.answers.specs.Report.{hasOther, badLine}
 use Rattle.script.specs.Script as script
 use Rattle.script.specs.Script.{longest, roomMost, words, callOf, parse}
@@ -58,10 +57,10 @@ module _ {before after : List ℕ} {at end : ℕ} where
   plays-enrol r t n type a t′ s l = plays-one _ _ _ _ _ (rw (← s, call-told a)) l
 
   pub plays-close : (r : Run) (t : List ℕ) (l : ℕ) (a : CallAnswer) (h : Hub) (e : Reading)
-      → Closes (r .hub) (getD (r .readings) l emptiedReading) l (closedOf (record { answer = a; hub = h; reading = e }))
+      → ClosesByValue (r .hub) (getD (r .readings) l emptiedReading) l (record { answer = a; hub = h; reading = e })
       → Leaves (appended before at (callLine a)) after end → Plays (close (worldOf r t) l) before at (record { hub = h; readings = set (r .readings) l e; at = end }) t after
   unfolding close
-  plays-close r t l a h e s w =
+  plays-close r t l a h e (s, b) w =
       plays-one _ _ _ _ _ (rw (List·getD-map taken (r .readings) l emptiedReading, ← s .refusal, ← s .hub, ← s .state, map-set taken (r .readings) l e, call-told a)) w
 
   -- the room's first bytes are lent, `part`, and `rest` stands behind them
@@ -73,13 +72,13 @@ module _ {before after : List ℕ} {at end : ℕ} where
     plays-finish r t x a h left s w = plays-one _ _ _ _ _ (rw (finish-told part rest p q (r .hub) x a h left s, s .hub)) w
 
     pub plays-feed : (r : Run) (t : List ℕ) (l : ℕ) (bytes : List ℕ) (a : FeedAnswer) (h : Hub) (e : Reading) (t′ left : List ℕ)
-        → Promise rules.hub (r .hub) t (getD (r .readings) l emptiedReading) l bytes part (fedOf (record { answer = a; hub = h; reading = e }) t′ left) → BoundedFed a e
+        → FeedsByValue (r .hub) t (getD (r .readings) l emptiedReading) l bytes part (record { answer = a; hub = h; reading = e }) t′ left
         → Leaves (appended before at (feedLine a (left ++ rest))) after end
         → Plays (feed (worldOf r t) l bytes (length part)) before at (record { hub = h; readings = set (r .readings) l e; at = end }) t′ after
     unfolding feed service.worldOf service.entryOf service.resultOf
-    plays-feed r t l bytes a h e t′ left s b w =
-        let f = promise-feed (record { hub = r .hub; table = t; records = r .readings }) (record { line = l; bytes = bytes; room = part; spare = emptiedReading }) s in
-        plays-one _ _ _ _ _ (rw (f, feed-told part rest p q (r .hub) t (getD (r .readings) l emptiedReading) l bytes a h e t′ left s b)) w
+    plays-feed r t l bytes a h e t′ left s w =
+        let f = promise-feed (record { hub = r .hub; table = t; records = r .readings }) (record { line = l; bytes = bytes; room = part; spare = emptiedReading }) (s .0) in
+        plays-one _ _ _ _ _ (rw (f, feed-told part rest p q (r .hub) t (getD (r .readings) l emptiedReading) l bytes a h e t′ left s)) w
 
   pub plays-bad : (r : Run) (t : List ℕ) → Leaves (appended before at badLine) after end
       → Plays (bad (worldOf r t)) before at (record { hub = r .hub; readings = r .readings; at = end }) t after

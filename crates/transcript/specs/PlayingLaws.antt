@@ -15,7 +15,7 @@ use Rattle.frame.specs.Answers as outcome
 use Rattle.frame.specs.declared.Outcome.{Outcome as Given}
 use Rattle.frame.specs.declared.Outcome.the-variants as given
 use Rattle.feeds.specs.System as system
-use Rattle.feeds.specs.Service.{Promise, lengthOf, called}
+use Rattle.feeds.specs.Service.{lengthOf, called}
 use Rattle.feeds.specs.ServiceLaws.{call-length, refused-untouched}
 use Rattle.frame.specs.Writing.{minRoom}
 use Rattle.sessions.specs.Sessions as sessions
@@ -31,7 +31,8 @@ use Rattle.calls.specs.declared.Finished.{Finished}
 use Rattle.calls.specs.declared.FeedAnswer.{FeedAnswer}
 use Rattle.calls.specs.declared.FeedAnswer.the-variants as feed
 use Rattle.calls.specs.declared.Fed.{Fed}
-use Rattle.calls.specs.Answers.{number, refusalOf, finishedOf, answerOf, fedOf, BoundedFed}
+use Rattle.calls.specs.Answers.{number, refusalOf, finishedOf, answerOf}
+use Rattle.calls.specs.Promises.{FeedsByValue}
 use Rattle.answers.specs.Report.{refusedLine, frameLine, hasOther, hasSpilled}
 use Rattle.transcript.specs.Replies.{filler, callLine, refusalLine, finishLine, outcomeLine, feedLine}
 use Rattle.transcript.specs.Playing.{callTold, finishTold, outcomeTold, feedTold}
@@ -124,13 +125,13 @@ module _ (part rest : List ℕ) (p : hasOther filler part ≡ false) (q : hasOth
       rw (reply-told (F .reply) left k long (w .room), none-spilled (F .reply) left k long (w .room), told, ← w .answer)
 
   pub feed-told : (h : Hub) (t : List ℕ) (r : Reading) (l : ℕ) (bytes : List ℕ) (a : FeedAnswer) (g : Hub) (e : Reading) (t′ left : List ℕ)
-      → Promise rules.hub h t r l bytes part (fedOf (record { answer = a; hub = g; reading = e }) t′ left) → BoundedFed a e
+      → FeedsByValue h t r l bytes part (record { answer = a; hub = g; reading = e }) t′ left
       → feedLine a (left ++ rest) ≡ feedTold (answerOf a (e .bytes)) (take (lengthOf (answerOf a (e .bytes))) left)
   unfolding feedLine feedTold refusalLine lengthOf
-  feed-told h t r l bytes (feed.Refused why) g e t′ left w b =
+  feed-told h t r l bytes (feed.Refused why) g e t′ left (w, b) =
       let room : left ≡ part = refused-untouched w (number why) refl .3 in
       rw (none-spilled [] left 0 refl room)
-  feed-told h t r l bytes (feed.Told u o k) g e t′ left w b =
+  feed-told h t r l bytes (feed.Told u o k) g e t′ left (w, b) =
       let c = called rules.hub h t r l bytes part in
       let long : k ≡ length (c .result .reply) = ap lengthOf (w .answer) ∙ call-length rules.hub h t _ l bytes (length part) in
       rw (reply-told (c .result .reply) left k long (w .room), none-spilled (c .result .reply) left k long (w .room))

@@ -21,7 +21,7 @@ same-length c = search needs
 returns : tie.Need-returns
 returns c =
     rw (c .before .before .before .before .with-reading .ensures)
-    (plays-close (c .before .before .before .before .before .before .before .before .before .before .before .args .run) _ (c .before .before .before .before .before .before .before .before .before .before .before .args .line) _ _ _ (rw (c .before .before .before .before .before .before .before .reading-of .ensures) at (c .before .before .before .before .before .before .close .ensures .0)) (c .before .before .call-line .ensures))
+    (plays-close (c .before .before .before .before .before .before .before .before .before .before .before .args .run) _ (c .before .before .before .before .before .before .before .before .before .before .before .args .line) _ _ _ (rw (c .before .before .before .before .before .before .before .reading-of .ensures) at (c .before .before .before .before .before .before .close .ensures)) (c .before .before .call-line .ensures))
 
 pub close-spec : {M : Type 1} → statement M
 close-spec =

@@ -39,7 +39,7 @@ returns c =
     let f = rw (c .before .before .before .before .before .before .before .before .before .before .before .before .before .before .reading-of .ensures) at (c .before .before .before .before .before .before .before .before .before .before .before .before .feed .ensures) in
     rw (c .before .before .before .before .before .before .with-reading .ensures)
     (rw (part-length n (c .before .before .before .before .before .before .before .before .before .before .before .before .before .before .before .before .before .before .before .before .before .pre)) at
-    (plays-feed (roomPart n) (roomRest n) (part-filler n) (rest-filler n) (c .before .before .before .before .before .before .before .before .before .before .before .before .before .before .before .before .before .before .before .before .before .args .run) _ _ _ _ _ _ _ _ (f .0) (f .1) (c .before .before .before .feed-line .ensures)))
+    (plays-feed (roomPart n) (roomRest n) (part-filler n) (rest-filler n) (c .before .before .before .before .before .before .before .before .before .before .before .before .before .before .before .before .before .before .before .before .before .args .run) _ _ _ _ _ _ _ _ f (c .before .before .before .feed-line .ensures)))
 
 pub feed-bytes-spec : {M : Type 1} → statement M
 feed-bytes-spec =
