@@ -10,7 +10,7 @@ use lib.Dec.{T, leb}
 use borrow.Author.Tests.{leb-true, le-leb}
 use Rattle.directory.specs.declared.Entry.{Entry}
 use Rattle.directory.specs.declared.Verdict.the-variants.{Unknown, WrongLength, Fits}
-use Rattle.directory.specs.Directory.{count, directory}
+use Rattle.directory.specs.Directory.{count, entry, directory}
 use Rattle.directory.specs.Lookup.{find, inRange, verdictOf, verdict, Stands, Allowed}
 use Rattle.directory.specs.LookupLaws.{find-there, ascending-found, ascending-once}
 use Rattle.directory.specs.Rule.{ruled, Sound, Ascending}
@@ -91,8 +91,12 @@ fits-exactly command len = (
     go (some e) h f = within e (leb (e .least) len) (leb len (e .greatest)) refl refl h f
 
 -- data that fit have a length in the range of the entry found
-pub fits-range : (command len : ℕ) (e : Entry) → find command directory ≡ some e → verdict command len ≡ Fits → (e .least ≤ len) × (len ≤ e .greatest)
+fits-range : (command len : ℕ) (e : Entry) → find command directory ≡ some e → verdict command len ≡ Fits → (e .least ≤ len) × (len ≤ e .greatest)
 fits-range command len e h f =
     let a = fits-exactly command len .0 f in
     let same : a .entry ≡ e = Option·some-injective (a .entry) e (sym (found-exactly command (a .entry) .1 (a .stands, a .number)) ∙ h) in
     (rw same at (a .least), rw same at (a .greatest))
+
+-- where the entry names one length, data that fit have that length
+pub fits-fixed : (command size len : ℕ) → find command directory ≡ some (entry command size size) → verdict command len ≡ Fits → len ≡ size
+fits-fixed command size len h f = let r = fits-range command len (entry command size size) h f in omega (arith, r .0, r .1)

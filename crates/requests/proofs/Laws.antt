@@ -1,48 +1,29 @@
--- Laws of the requests: how long the data of each are, and what they leave.
-use Prim.Native.Nat.{ℕ}
+-- Laws of the requests: what they leave and answer.
+use Prim.Native.Nat.{ℕ, _≤_}
 use mathlib.Core.Path.{_≡_, refl}
 use mathlib.Core.List.{List, [], _∷_, _++_}
 use mathlib.Core.Bool.{Bool, true, false, cond}
 use native.Mathlib.Omega.{arith}
+use lib.ListN.{length}
 use Rattle.frame.specs.Frame.{wire}
-use Rattle.directory.specs.declared.Verdict.the-variants.{Fits}
-use Rattle.directory.specs.Directory.{directory}
-use Rattle.directory.specs.Lookup.{find, verdict}
-use Rattle.directory.specs.DirectoryLaws.{fits-range}
-use Rattle.nodes.specs.Table.{inUse, information}
+use Rattle.frame.specs.Writing.{minRoom}
+use Rattle.nodes.specs.Table.{Result, inUse, information}
+use Rattle.nodes.specs.Answers.{Results}
 use Rattle.rules.specs.declared.Hub.{Hub}
-use Rattle.rules.specs.Hub.{Reply, getNode}
+use Rattle.rules.specs.Hub.{Reply, failure, nodeReply, getNode}
+use Rattle.calls.specs.Replies.{Replied, Serves, reply}
+use Rattle.calls.specs.ReplyLaws.{replied-whole}
 
--- ---- how long the data of a served request are
+-- ---- one frame, written where it has room, is the definition's reply
 
-module _ (n : ℕ) where
-  pub enter-size : verdict 0x3000 n ≡ Fits → n ≡ 32
-  unfolding find directory
-  enter-size f = let r = fits-range 0x3000 n (record { number = 0x3000; least = 32; greatest = 32 }) refl f in omega (arith, r .0, r .1)
+module _ (h : Hub) (room left : List ℕ) (n : ℕ) (fits : minRoom ≤ length room) where
+  -- the error frame: hub and table stay
+  pub failure-served : (t : List ℕ) (e : ℕ) → Replied (reply room 0x0000 (e ∷ [])) room n left → Serves (failure h t e) room (record { hub = h; len = n }) t left
+  failure-served t e p = record { hub = refl; table = refl; replied = replied-whole _ _ _ _ _ fits (omega arith) p }
 
-  pub change-size : verdict 0x3002 n ≡ Fits → n ≡ 64
-  unfolding find directory
-  change-size f = let r = fits-range 0x3002 n (record { number = 0x3002; least = 64; greatest = 64 }) refl f in omega (arith, r .0, r .1)
-
-  pub get-size : verdict 0x0200 n ≡ Fits → n ≡ 1
-  unfolding find directory
-  get-size f = let r = fits-range 0x0200 n (record { number = 0x0200; least = 1; greatest = 1 }) refl f in omega (arith, r .0, r .1)
-
-  pub variation-size : verdict 0x0206 n ≡ Fits → n ≡ 2
-  unfolding find directory
-  variation-size f = let r = fits-range 0x0206 n (record { number = 0x0206; least = 2; greatest = 2 }) refl f in omega (arith, r .0, r .1)
-
-  pub name-size : verdict 0x0208 n ≡ Fits → n ≡ 65
-  unfolding find directory
-  name-size f = let r = fits-range 0x0208 n (record { number = 0x0208; least = 65; greatest = 65 }) refl f in omega (arith, r .0, r .1)
-
-  pub order-size : verdict 0x020D n ≡ Fits → n ≡ 4
-  unfolding find directory
-  order-size f = let r = fits-range 0x020D n (record { number = 0x020D; least = 4; greatest = 4 }) refl f in omega (arith, r .0, r .1)
-
-  pub mode-send-size : verdict 0x0320 n ≡ Fits → n ≡ 31
-  unfolding find directory
-  mode-send-size f = let r = fits-range 0x0320 n (record { number = 0x0320; least = 31; greatest = 31 }) refl f in omega (arith, r .0, r .1)
+  -- the confirm of a node set command: the table is the command's
+  pub node-served : (t : List ℕ) (x : Result) (c node s : ℕ) → Results x s t → Replied (reply room c (s ∷ node ∷ [])) room n left → Serves (nodeReply h c node x) room (record { hub = h; len = n }) t left
+  node-served t x c node s r p = record { hub = refl; table = r .table; replied = replied-whole _ _ _ _ _ fits (omega arith) (rw (r .status) at p) }
 
 -- ---- what a request leaves
 

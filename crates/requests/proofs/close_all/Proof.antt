@@ -1,4 +1,5 @@
 use Rattle.sessions.specs.SessionLaws.{closeAll-free}
+use Rattle.sessions.specs.Sessions.{slotCount}
 use lib.ListN.{length}
 use mathlib.Core.Path.{_≡_, _∙_, sym}
 use borrow.Author.Needs.{needs}
@@ -10,8 +11,8 @@ none-requires c κs = search needs
 
 returns : tie.Need-returns
 returns c =
-    let long : length (c .before .args .slots) ≡ 8 = search needs in
-    c .none .ensures ∙ sym (closeAll-free (c .before .args .slots) 8 long)
+    let long : length (c .before .args .slots) ≡ slotCount = search needs in
+    c .none .ensures ∙ sym (closeAll-free (c .before .args .slots) slotCount long)
 
 pub close-all-spec : {M : Type 1} → statement M
 close-all-spec = tie.close (tie.spec none-requires returns)

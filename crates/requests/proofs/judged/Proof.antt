@@ -1,7 +1,6 @@
-use Rattle.calls.specs.ReplyLaws.{replied-whole}
-use native.Mathlib.Omega.{arith}
+use Rattle.requests.proofs.Laws.{failure-served}
 use Rattle.rules.specs.Hub.{serve}
-use mathlib.Core.Path.{refl, sym, _∙_}
+use mathlib.Core.Path.{sym, _∙_}
 use borrow.Author.Needs.{needs}
 use Rattle.requests.proofs.judged.Statement.{statement}
 use Rattle.requests.proofs.judged.Tie as tie
@@ -48,21 +47,21 @@ same-length-3 c = search needs
 
 returns-2 : tie.Need-returns-2
 unfolding serve
-returns-2 c = rw (sym (c .before .before .before .before .before .before .judge .ensures) ∙ c .before .before .before .before .enum-told .given .1) (record { hub = refl; table = refl; replied = replied-whole _ _ _ _ _ (c .before .before .before .before .before .before .before .before .before .before .pre .1) (omega arith) (c .before .before .error .ensures) })
+returns-2 c = rw (sym (c .before .before .before .before .before .before .judge .ensures) ∙ c .before .before .before .before .enum-told .given .1) (failure-served _ _ _ _ (c .before .before .before .before .before .before .before .before .before .before .pre .1) _ _ (c .before .before .error .ensures))
 
 same-length-4 : tie.Need-same-length-4
 same-length-4 c = search needs
 
 returns-3 : tie.Need-returns-3
 unfolding serve
-returns-3 c = rw (sym (c .before .before .before .before .before .before .judge .ensures) ∙ c .before .before .before .before .enum-told2 .given .1) (record { hub = refl; table = refl; replied = replied-whole _ _ _ _ _ (c .before .before .before .before .before .before .before .before .before .before .pre .1) (omega arith) (c .before .before .error2 .ensures) })
+returns-3 c = rw (sym (c .before .before .before .before .before .before .judge .ensures) ∙ c .before .before .before .before .enum-told2 .given .1) (failure-served _ _ _ _ (c .before .before .before .before .before .before .before .before .before .before .pre .1) _ _ (c .before .before .error2 .ensures))
 
 same-length-5 : tie.Need-same-length-5
 same-length-5 c = search needs
 
 returns-4 : tie.Need-returns-4
 unfolding serve
-returns-4 c = rw (sym (c .before .before .before .before .before .before .before .before .before .judge .ensures) ∙ c .before .before .before .before .before .before .before .enum-told3 .given .1, sym (c .before .before .before .before .before .may-ask .ensures) ∙ c .before .before .before .before .if1 .left) (record { hub = refl; table = refl; replied = replied-whole _ _ _ _ _ (c .before .before .before .before .before .before .before .before .before .before .before .before .before .pre .1) (omega arith) (c .before .before .error3 .ensures) })
+returns-4 c = rw (sym (c .before .before .before .before .before .before .before .before .before .judge .ensures) ∙ c .before .before .before .before .before .before .before .enum-told3 .given .1, sym (c .before .before .before .before .before .may-ask .ensures) ∙ c .before .before .before .before .if1 .left) (failure-served _ _ _ _ (c .before .before .before .before .before .before .before .before .before .before .before .before .before .pre .1) _ _ (c .before .before .error3 .ensures))
 
 pub judged-spec : {M : Type 1} → statement M
 judged-spec =

@@ -1,5 +1,7 @@
-use Rattle.calls.specs.ReplyLaws.{replied-whole}
-use Rattle.requests.proofs.Laws.{enter-size, change-size, get-size, variation-size, name-size, order-size, mode-send-size, getNode-kept}
+use Rattle.requests.proofs.Laws.{failure-served, getNode-kept}
+use Rattle.directory.specs.Directory.{directory}
+use Rattle.directory.specs.Lookup.{find}
+use Rattle.directory.specs.DirectoryLaws.{fits-fixed}
 use Rattle.rules.specs.Hub.{request, modeSend}
 use borrow.Author.Tests.{ne-eqb}
 use lib.ListN.{getD}
@@ -10,25 +12,31 @@ use Rattle.requests.proofs.request.Statement.{statement}
 use Rattle.requests.proofs.request.Tie as tie
 
 enter-requires : tie.Need-enter-requires
-enter-requires c κs = (c .before .before .before .before .before .pre .1, enter-size _ (rw (c .before .match .keys1) at (c .before .before .before .before .before .pre .2)))
+unfolding find directory
+enter-requires c κs = (c .before .before .before .before .before .pre .1, fits-fixed 0x3000 32 _ refl (rw (c .before .match .keys1) at (c .before .before .before .before .before .pre .2)))
 
 change-requires : tie.Need-change-requires
-change-requires c κs = (c .before .before .before .before .before .pre .1, change-size _ (rw (c .before .match .keys2) at (c .before .before .before .before .before .pre .2)))
+unfolding find directory
+change-requires c κs = (c .before .before .before .before .before .pre .1, fits-fixed 0x3002 64 _ refl (rw (c .before .match .keys2) at (c .before .before .before .before .before .pre .2)))
 
 shared-slice-read-get-node : tie.Need-shared-slice-read-get-node
-shared-slice-read-get-node c = let n = get-size _ (rw (c .before .before .before .match .keys3) at (c .before .before .before .before .before .before .before .pre .2)) in omega arith
+unfolding find directory
+shared-slice-read-get-node c = let n = fits-fixed 0x0200 1 _ refl (rw (c .before .before .before .match .keys3) at (c .before .before .before .before .before .before .before .pre .2)) in omega arith
 
 get-node-requires : tie.Need-get-node-requires
 get-node-requires c κs = search needs
 
 set-variation-requires : tie.Need-set-variation-requires
-set-variation-requires c κs = (c .before .before .before .before .before .before .pre .1, variation-size _ (rw (c .before .before .match .keys4) at (c .before .before .before .before .before .before .pre .2)))
+unfolding find directory
+set-variation-requires c κs = (c .before .before .before .before .before .before .pre .1, fits-fixed 0x0206 2 _ refl (rw (c .before .before .match .keys4) at (c .before .before .before .before .before .before .pre .2)))
 
 set-name-requires : tie.Need-set-name-requires
-set-name-requires c κs = let n = name-size _ (rw (c .before .before .match .keys5) at (c .before .before .before .before .before .before .pre .2)) in (c .before .before .before .before .before .before .pre .1, omega arith)
+unfolding find directory
+set-name-requires c κs = let n = fits-fixed 0x0208 65 _ refl (rw (c .before .before .match .keys5) at (c .before .before .before .before .before .before .pre .2)) in (c .before .before .before .before .before .before .pre .1, omega arith)
 
 set-order-and-placement-requires : tie.Need-set-order-and-placement-requires
-set-order-and-placement-requires c κs = let n = order-size _ (rw (c .before .before .match .keys6) at (c .before .before .before .before .before .before .pre .2)) in (c .before .before .before .before .before .before .pre .1, omega arith)
+unfolding find directory
+set-order-and-placement-requires c κs = let n = fits-fixed 0x020D 4 _ refl (rw (c .before .before .match .keys6) at (c .before .before .before .before .before .before .pre .2)) in (c .before .before .before .before .before .before .pre .1, omega arith)
 
 remove-nodes-requires : tie.Need-remove-nodes-requires
 remove-nodes-requires c κs = search needs
@@ -37,7 +45,8 @@ virgin-state-requires : tie.Need-virgin-state-requires
 virgin-state-requires c κs = search needs
 
 mode-send-requires : tie.Need-mode-send-requires
-mode-send-requires c κs = let n = mode-send-size _ (rw (c .before .before .match .keys9) at (c .before .before .before .before .before .before .pre .2)) in (c .before .before .before .before .before .before .pre .1, omega arith)
+unfolding find directory
+mode-send-requires c κs = let n = fits-fixed 0x0320 31 _ refl (rw (c .before .before .match .keys9) at (c .before .before .before .before .before .before .pre .2)) in (c .before .before .before .before .before .before .pre .1, omega arith)
 
 error-requires : tie.Need-error-requires
 error-requires c κs = search needs
@@ -136,7 +145,7 @@ unfolding request
 returns-10 c =
     let n = c .before .before .before .before .match .rest in
     rw (ne-eqb _ _ (n .0 .0 .0 .0 .0 .0 .0 .0 .1), ne-eqb _ _ (n .0 .0 .0 .0 .0 .0 .0 .1), ne-eqb _ _ (n .0 .0 .0 .0 .0 .0 .1), ne-eqb _ _ (n .0 .0 .0 .0 .0 .1), ne-eqb _ _ (n .0 .0 .0 .0 .1), ne-eqb _ _ (n .0 .0 .0 .1), ne-eqb _ _ (n .0 .0 .1), ne-eqb _ _ (n .0 .1), ne-eqb _ _ (n .1))
-    (record { hub = refl; table = refl; replied = replied-whole _ _ _ _ _ (c .before .before .before .before .before .before .before .before .pre .1) (omega arith) (c .before .before .error .ensures) })
+    (failure-served _ _ _ _ (c .before .before .before .before .before .before .before .before .pre .1) _ _ (c .before .before .error .ensures))
 
 pub request-spec : {M : Type 1} → statement M
 request-spec =

@@ -1,7 +1,5 @@
-use Rattle.calls.specs.ReplyLaws.{replied-whole}
-use native.Mathlib.Omega.{arith}
+use Rattle.requests.proofs.Laws.{node-served}
 use Rattle.store.specs.WroteLaws.{rest}
-use mathlib.Core.Path.{refl}
 use borrow.Author.Needs.{needs}
 use Rattle.requests.proofs.set_order_and_placement.Statement.{statement}
 use Rattle.requests.proofs.set_order_and_placement.Tie as tie
@@ -31,9 +29,7 @@ same-length-2 : tie.Need-same-length-2
 same-length-2 c = search needs
 
 returns : tie.Need-returns
-returns c =
-    let x = rw (rest (c .before .before .before .before .before .before .before .before .before .before .before .before .before .args .payload .now) 1) at (c .before .before .before .before .before .before .set-order-and-placement .ensures) in
-    record { hub = refl; table = x .table; replied = replied-whole _ _ _ _ _ (c .before .before .before .before .before .before .before .before .before .before .before .before .before .pre .0) (omega arith) (rw (x .status) at (c .before .before .confirm .ensures)) }
+returns c = node-served _ _ _ _ (c .before .before .before .before .before .before .before .before .before .before .before .before .before .pre .0) _ _ _ _ _ (rw (rest (c .before .before .before .before .before .before .before .before .before .before .before .before .before .args .payload .now) 1) at (c .before .before .before .before .before .before .set-order-and-placement .ensures)) (c .before .before .confirm .ensures)
 
 pub set-order-and-placement-spec : {M : Type 1} → statement M
 set-order-and-placement-spec =

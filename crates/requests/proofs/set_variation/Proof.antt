@@ -1,6 +1,4 @@
-use Rattle.calls.specs.ReplyLaws.{replied-whole}
-use native.Mathlib.Omega.{arith}
-use mathlib.Core.Path.{refl}
+use Rattle.requests.proofs.Laws.{node-served}
 use borrow.Author.Needs.{needs}
 use Rattle.requests.proofs.set_variation.Statement.{statement}
 use Rattle.requests.proofs.set_variation.Tie as tie
@@ -24,9 +22,7 @@ same-length-2 : tie.Need-same-length-2
 same-length-2 c = search needs
 
 returns : tie.Need-returns
-returns c =
-    let x = c .before .before .before .before .before .before .set-variation .ensures in
-    record { hub = refl; table = x .table; replied = replied-whole _ _ _ _ _ (c .before .before .before .before .before .before .before .before .before .before .before .before .before .pre .0) (omega arith) (rw (x .status) at (c .before .before .confirm .ensures)) }
+returns c = node-served _ _ _ _ (c .before .before .before .before .before .before .before .before .before .before .before .before .before .pre .0) _ _ _ _ _ (c .before .before .before .before .before .before .set-variation .ensures) (c .before .before .confirm .ensures)
 
 pub set-variation-spec : {M : Type 1} → statement M
 set-variation-spec =
