@@ -20,8 +20,7 @@ recordSize = 72
 abbrev pub tableSize : ℕ
 tableSize = nodeCount * recordSize
 
--- a field of a record is where it stands and how long it is
--- in use, type 2, name 64, order 2, placement 1, variation 1, spare 1
+-- A field of a record is where it stands and how long it is. The fields: in use, type 2, name 64, order 2, placement 1, variation 1, spare 1.
 abbrev pub useField : Field
 useField = record { at = 0; size = 1 }
 
@@ -169,7 +168,7 @@ emptied t = replicate (length t) 0
 
 -- in use, with its type, high byte first; other fields zero
 unfoldable pub enrolledRecord : ℕ → List ℕ
-enrolledRecord type = (1 ∷ type / 256 ∷ type % 256 ∷ []) ++ replicate (recordSize - 3) 0
+enrolledRecord type = (1 ∷ type / 256 ∷ type % 256 ∷ []) ++ replicate (recordSize - nameField .at) 0
 
 -- what would lie behind the table's end is dropped here too
 abbrev pub enrolled : List ℕ → ℕ → ℕ → List ℕ

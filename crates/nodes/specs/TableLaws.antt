@@ -11,11 +11,7 @@ use borrow.Author.Tests.{ltb-true, eq-eqb}
 use Rattle.nodes.specs.declared.Field.{Field}
 use Rattle.nodes.specs.declared.Informed.{Informed}
 use Rattle.nodes.specs.Cases.{either}
-use Rattle.nodes.specs.Table.{tableSize, recordSize, nodeCount, useField, typeField, nameField, orderField, placementField, variationField, spareField, orderAndPlacement, fieldOf, inUse, setField, isRejected, setVariation, Result, information, nothing, informed, isRemoved, emptyRecord, removeOne, removeBelow}
-
--- the table has 14,400 bytes
-table-size : tableSize ≡ 14400
-table-size = refl
+use Rattle.nodes.specs.Table.{tableSize, recordSize, nodeCount, useField, typeField, nameField, orderField, placementField, variationField, spareField, orderAndPlacement, fieldOf, inUse, setField, isRejected, setVariation, Result, informationSize, information, nothing, informed, isRemoved, emptyRecord, removeOne, removeBelow}
 
 -- the fields fill a record one behind the other
 fields-fill : (useField .at + useField .size ≡ typeField .at) × (typeField .at + typeField .size ≡ nameField .at)
@@ -50,8 +46,8 @@ remove-length bits (suc n) t = removeOne-length bits n (removeBelow bits n t) �
 pub field-length : (t : List ℕ) (n : ℕ) (f : Field) → length t ≡ tableSize → n < nodeCount → f .at + f .size ≤ recordSize → length (fieldOf t n f) ≡ f .size
 field-length t n f e h k = simp (length-take, length-drop) (omega arith)
 
--- a node's information has 124 bytes
-pub information-length : (t : List ℕ) (n : ℕ) → length t ≡ tableSize → n < nodeCount → length (information t n) ≡ 124
+-- a node's information has as many bytes as frame 0210 has data
+pub information-length : (t : List ℕ) (n : ℕ) → length t ≡ tableSize → n < nodeCount → length (information t n) ≡ informationSize
 unfolding information
 information-length t n e h =
     let o = field-length t n orderField e h (omega arith) in

@@ -1,15 +1,25 @@
 -- The table's commands, computed on three records: only node 1 is in use.
-use Prim.Native.Nat.{ℕ}
+use Prim.Native.Nat.{ℕ, _-_, _*_}
 use mathlib.Core.Path.{_≡_, refl}
 use mathlib.Core.List.{List, [], _∷_, _++_, map}
 use mathlib.Core.Bool.{true, false}
 use lib.ListN.{replicate}
-use Rattle.nodes.specs.Table.{inUse, setField, setName, setOrderAndPlacement, setVariation, information, bit, removeOne, removeBelow, remove, emptied, enrolledRecord, enrolled}
+use Rattle.nodes.specs.Table.{tableSize, recordSize, nameField, spareField, inUse, setField, setName, setOrderAndPlacement, setVariation, information, bit, removeOne, removeBelow, remove, emptied, enrolledRecord, enrolled}
+
+-- the table of document 01
+table-size : tableSize ≡ 14400
+table-size = refl
+
+-- all bytes of three records
+abbrev filled : ℕ → List ℕ
+filled b = replicate (3 * recordSize) b
 
 -- node 1 with its name's byte, order, placement and variation
 unfoldable with : ℕ → ℕ → ℕ → ℕ → List ℕ
 with name order placement variation =
-    replicate 72 0 ++ ((1 ∷ 0x01 ∷ 0x02 ∷ []) ++ replicate 64 name ++ (0 ∷ order ∷ placement ∷ variation ∷ 6 ∷ [])) ++ replicate 72 0
+    replicate recordSize 0
+    ++ ((1 ∷ 0x01 ∷ 0x02 ∷ []) ++ replicate 64 name ++ (0 ∷ order ∷ placement ∷ variation ∷ []) ++ replicate (recordSize - spareField .at) 6)
+    ++ replicate recordSize 0
 
 -- only the named field is overwritten
 named : setName (with 7 5 9 4) 1 (replicate 64 8) ≡ record { status = 0; table = with 8 5 9 4 }
@@ -37,7 +47,7 @@ unfolding bit
 bits = refl
 
 -- node 1 is removed, and node 0 ignored, whatever its record holds
-removed : remove (3 ∷ []) (with 7 5 9 4) ∷ remove (1 ∷ []) (with 7 5 9 4) ∷ remove (1 ∷ []) (replicate 216 9) ∷ [] ≡ replicate 216 0 ∷ with 7 5 9 4 ∷ replicate 216 9 ∷ []
+removed : remove (3 ∷ []) (with 7 5 9 4) ∷ remove (1 ∷ []) (with 7 5 9 4) ∷ remove (1 ∷ []) (filled 9) ∷ [] ≡ filled 0 ∷ with 7 5 9 4 ∷ filled 9 ∷ []
 unfolding with removeBelow removeOne bit inUse
 removed = refl
 
@@ -47,10 +57,10 @@ unfolding with removeBelow removeOne bit inUse
 ignored = refl
 
 -- virgin state leaves no byte
-zeroed : emptied (replicate 216 9) ≡ replicate 216 0
+zeroed : emptied (filled 9) ≡ filled 0
 zeroed = refl
 
 -- type high byte first, other fields zero
-enrols : enrolled (replicate 216 9) 1 0x0102 ≡ replicate 72 9 ++ (1 ∷ 0x01 ∷ 0x02 ∷ []) ++ replicate 69 0 ++ replicate 72 9
+enrols : enrolled (filled 9) 1 0x0102 ≡ replicate recordSize 9 ++ (1 ∷ 0x01 ∷ 0x02 ∷ []) ++ replicate (recordSize - nameField .at) 0 ++ replicate recordSize 9
 unfolding enrolledRecord
 enrols = refl

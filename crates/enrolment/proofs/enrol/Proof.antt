@@ -1,5 +1,5 @@
 use Prim.Native.Nat.{_-_, _*_, _/_, _%_}
-use Rattle.nodes.specs.Table.{recordSize, enrolledRecord}
+use Rattle.nodes.specs.Table.{recordSize, nameField, enrolledRecord}
 use Rattle.store.specs.WroteLaws.{sets-append}
 use lib.ListN.{replicate}
 use mathlib.Core.List.{[], _∷_}
@@ -37,7 +37,7 @@ same-length c = search needs
 
 returns : tie.Need-returns
 unfolding enrolledRecord
-returns c = c .before .before .fill .ensures ∙ rw (c .before .before .before .before .before .before .copy .ensures) (sets-append (1 ∷ c .before .before .before .before .before .before .before .before .before .before .args .kind / 256 ∷ c .before .before .before .before .before .before .before .before .before .before .args .kind % 256 ∷ []) (replicate (recordSize - 3) 0) (c .before .before .before .before .before .before .before .before .before .before .args .table .now) (c .before .before .before .before .before .before .before .before .before .before .args .node * recordSize))
+returns c = c .before .before .fill .ensures ∙ rw (c .before .before .before .before .before .before .before .before .copy .ensures) (sets-append (1 ∷ c .before .before .before .before .before .before .before .before .before .before .before .before .args .kind / 256 ∷ c .before .before .before .before .before .before .before .before .before .before .before .before .args .kind % 256 ∷ []) (replicate (recordSize - nameField .at) 0) (c .before .before .before .before .before .before .before .before .before .before .before .before .args .table .now) (c .before .before .before .before .before .before .before .before .before .before .before .before .args .node * recordSize))
 
 pub enrol-spec : {M : Type 1} → statement M
 enrol-spec =
