@@ -18,5 +18,6 @@ pub fn enrol(table: &mut [u8], node: u8, kind: u16)
     let at = (node as usize) * nodes::RECORD;
     let front = [1, (kind / 256) as u8, (kind % 256) as u8];
     store::copy(table, at, &front);
-    store::fill(table, at + nodes::NAME.at, nodes::RECORD - nodes::NAME.at, 0);
+    let behind = nodes::NAME.at;
+    store::fill(table, at + behind, nodes::RECORD - behind, 0);
 }

@@ -11,11 +11,11 @@ use Rattle.enrolment.proofs.enrol.Tie as tie
 mul-at : tie.Need-mul-at
 mul-at c = search needs
 
-cast-t8 : tie.Need-cast-t8
-cast-t8 c = search needs
+cast-t9 : tie.Need-cast-t9
+cast-t9 c = search needs
 
-cast-t10 : tie.Need-cast-t10
-cast-t10 c = search needs
+cast-t11 : tie.Need-cast-t11
+cast-t11 c = search needs
 
 slice-aggregate-copy : tie.Need-slice-aggregate-copy
 slice-aggregate-copy c = search needs
@@ -37,15 +37,15 @@ same-length c = search needs
 
 returns : tie.Need-returns
 unfolding enrolledRecord
-returns c = c .before .before .fill .ensures ∙ rw (c .before .before .before .before .before .before .before .before .copy .ensures) (sets-append (1 ∷ c .before .before .before .before .before .before .before .before .before .before .before .before .args .kind / 256 ∷ c .before .before .before .before .before .before .before .before .before .before .before .before .args .kind % 256 ∷ []) (replicate (recordSize - nameField .at) 0) (c .before .before .before .before .before .before .before .before .before .before .before .before .args .table .now) (c .before .before .before .before .before .before .before .before .before .before .before .before .args .node * recordSize))
+returns c = c .before .before .fill .ensures ∙ rw (c .before .before .before .before .before .before .copy .ensures) (sets-append (1 ∷ c .before .before .before .before .before .before .before .before .before .before .args .kind / 256 ∷ c .before .before .before .before .before .before .before .before .before .before .args .kind % 256 ∷ []) (replicate (recordSize - nameField .at) 0) (c .before .before .before .before .before .before .before .before .before .before .args .table .now) (c .before .before .before .before .before .before .before .before .before .before .args .node * recordSize))
 
 pub enrol-spec : {M : Type 1} → statement M
 enrol-spec =
     tie.close
     (tie.spec
     mul-at
-    cast-t8
-    cast-t10
+    cast-t9
+    cast-t11
     slice-aggregate-copy
     copy-requires
     add-fill
