@@ -18,6 +18,9 @@ use directory::Verdict;
 use rules::Hub;
 use sessions::Slot;
 
+// The request that a line may ask before it is logged in.
+const PASSWORD_ENTER: u16 = 0x3000;
+
 // The bytes of the error frame.
 const UNKNOWN_COMMAND: u8 = 1;
 
@@ -90,7 +93,7 @@ fn may_ask(logins: [bool; rules::LINES], line: u8, command: u16) -> bool
     if logins::is_logged_in(logins, line) {
         return true;
     }
-    command == 0x3000
+    command == PASSWORD_ENTER
 }
 
 // A request by its number.
@@ -106,7 +109,7 @@ fn request(
     ensures { λ r. ⌜ Serves (request hub (now (table .entry)) line command (now (payload .entry))) (now (room .entry)) r (now (table .exit)) (now (room .exit)) ⌝ }
 {
     match command {
-        0x3000 => enter(hub, room, line, payload),
+        PASSWORD_ENTER => enter(hub, room, line, payload),
         0x3002 => change(hub, room, payload),
         0x0200 => get_node(hub, table, room, payload[0]),
         0x0206 => set_variation(hub, table, room, payload),

@@ -3,14 +3,14 @@ use Prim.Native.Nat.{ℕ}
 use mathlib.Core.Path.{_≡_}
 use mathlib.Core.List.{List, [], _∷_}
 use mathlib.Core.Bool.{true}
-use lib.ListN.{take, drop, getD}
+use lib.ListN.{drop, getD}
 use lib.Dec.{eqb}
 use Rattle.nodes.specs.Cases.{either-by}
 use Rattle.nodes.specs.Table.{setVariation, setName, setOrderAndPlacement}
 use Rattle.directory.specs.declared.Verdict.{Verdict}
 use Rattle.directory.specs.declared.Verdict.the-variants as verdicts
 use Rattle.rules.specs.declared.Hub.{Hub}
-use Rattle.rules.specs.Hub.{Reply, unknownCommand, failure, byVerdict, passwordSize, enter, change, reply, nodeReply, getNode, removeNodes, virginState, modeSend, request}
+use Rattle.rules.specs.Hub.{Reply, unknownCommand, failure, byVerdict, enter, changed, passwordEnter, reply, nodeReply, getNode, removeNodes, virginState, modeSend, request}
 pub use Rattle.nodes.specs.Cases.{either}
 
 pub each-verdict : (P : Reply → Type 0) (v : Verdict) (a b x : Reply) → P a → P b → P x → P (byVerdict v a b x)
@@ -20,8 +20,8 @@ each-verdict P verdicts.Fits a b x p q r = r
 
 -- the requests served, in the order of their definition, and one that is not served
 pub each-request : (P : Reply → Type 0) (h : Hub) (t : List ℕ) (l c : ℕ) (d : List ℕ)
-    → (eqb c 0x3000 ≡ true → P (reply (enter h l d .hub) t 0x3001 (enter h l d .status ∷ [])))
-    → P (reply (change h (take passwordSize d) (drop passwordSize d) .hub) t 0x3003 (change h (take passwordSize d) (drop passwordSize d) .status ∷ []))
+    → (eqb c passwordEnter ≡ true → P (reply (enter h l d .hub) t 0x3001 (enter h l d .status ∷ [])))
+    → P (reply (changed h d .hub) t 0x3003 (changed h d .status ∷ []))
     → P (getNode h t (getD d 0 0))
     → P (nodeReply h 0x0207 (getD d 0 0) (setVariation t (getD d 0 0) (getD d 1 0)))
     → P (nodeReply h 0x0209 (getD d 0 0) (setName t (getD d 0 0) (drop 1 d)))
@@ -32,9 +32,9 @@ pub each-request : (P : Reply → Type 0) (h : Hub) (t : List ℕ) (l c : ℕ) (
     → P (failure h t unknownCommand)
     → P (request h t l c d)
 unfolding request
-each-request P h t l c d entered changed got varied named placed removed zeroed sent other =
-    either-by P (eqb c 0x3000) _ _ entered
-    (λ e. either P (eqb c 0x3002) _ _ changed
+each-request P h t l c d entered replaced got varied named placed removed zeroed sent other =
+    either-by P (eqb c passwordEnter) _ _ entered
+    (λ e. either P (eqb c 0x3002) _ _ replaced
     (either P (eqb c 0x0200) _ _ got
     (either P (eqb c 0x0206) _ _ varied
     (either P (eqb c 0x0208) _ _ named

@@ -51,6 +51,13 @@ wrongPassword = 14
 abbrev pub refuseIf : Bool → ℕ → Option ℕ → Option ℕ
 refuseIf t n o = cond t (some n) o
 
+-- the tests that calls share: a table of another length, a line above 3
+abbrev pub refuseTable : List ℕ → Option ℕ → Option ℕ
+refuseTable t o = refuseIf (not (eqb (length t) table.tableSize)) wrongTable o
+
+abbrev pub refuseLine : ℕ → Option ℕ → Option ℕ
+refuseLine l o = refuseIf (not (ltb l lineCount)) wrongLine o
+
 -- what serving an outcome leaves and writes
 abbrev pub Reply : Type 0
 Reply = Served Hub (List ℕ)
@@ -107,7 +114,15 @@ change h old new =
     (record { status = correct; hub = record { password = new; logins = h .logins; slots = h .slots } })
     (record { status = incorrect; hub = h })
 
+-- by the request's data: the old password, and then the new
+abbrev pub changed : Hub → List ℕ → Password
+changed h d = change h (take passwordSize d) (drop passwordSize d)
+
 -- ---- requests
+
+-- the request that a line may ask before it is logged in
+abbrev pub passwordEnter : ℕ
+passwordEnter = 0x3000
 
 abbrev pub withSlots : Hub → List Slot → Hub
 withSlots h ss = record { password = h .password; logins = h .logins; slots = ss }
@@ -145,8 +160,8 @@ modeSend h t l d =
 unfoldable pub request : Hub → List ℕ → ℕ → ℕ → List ℕ → Reply
 request h t l c d =
     let n = getD d 0 0 in
-    cond (eqb c 0x3000) (let r = enter h l d in reply (r .hub) t 0x3001 (r .status ∷ []))
-    (cond (eqb c 0x3002) (let r = change h (take passwordSize d) (drop passwordSize d) in reply (r .hub) t 0x3003 (r .status ∷ []))
+    cond (eqb c passwordEnter) (let r = enter h l d in reply (r .hub) t 0x3001 (r .status ∷ []))
+    (cond (eqb c 0x3002) (let r = changed h d in reply (r .hub) t 0x3003 (r .status ∷ []))
     (cond (eqb c 0x0200) (getNode h t n)
     (cond (eqb c 0x0206) (nodeReply h 0x0207 n (table.setVariation t n (getD d 1 0)))
     (cond (eqb c 0x0208) (nodeReply h 0x0209 n (table.setName t n (drop 1 d)))
@@ -166,7 +181,7 @@ isLoggedIn h l = isListed (h .logins) l
 
 -- a line that is not logged in may enter the password only
 abbrev pub mayAsk : List Bool → ℕ → ℕ → Bool
-mayAsk logins l c = isListed logins l || eqb c 0x3000
+mayAsk logins l c = isListed logins l || eqb c passwordEnter
 
 -- judged in this order: packet refused, 2; command unknown, 1; data length outside the directory's range, 2; not logged in and not
 -- password enter, 12; known but not served, 1
@@ -194,7 +209,7 @@ abbrev pub firstHub : Hub
 firstHub = freshHub (replicate passwordSize 0)
 
 abbrev pub startRefusal : List ℕ → List ℕ → Option ℕ
-startRefusal t p = refuseIf (not (eqb (length t) table.tableSize)) wrongTable (refuseIf (not (eqb (length p) passwordSize)) wrongPassword none)
+startRefusal t p = refuseTable t (refuseIf (not (eqb (length p) passwordSize)) wrongPassword none)
 
 abbrev pub startBy : Option ℕ → Hub → List ℕ → List ℕ → Started
 startBy (some n) h t p = record { refusal = some n; hub = h; table = t }
@@ -209,9 +224,7 @@ pub record Enrolled : Type 0 where
   pub table : List ℕ
 
 abbrev pub enrolRefusal : List ℕ → ℕ → Option ℕ
-enrolRefusal t n =
-    refuseIf (not (eqb (length t) table.tableSize)) wrongTable
-    (refuseIf (not (table.isNode n)) wrongNode (refuseIf (table.inUse t n) nodeInUse none))
+enrolRefusal t n = refuseTable t (refuseIf (not (table.isNode n)) wrongNode (refuseIf (table.inUse t n) nodeInUse none))
 
 abbrev pub enrolBy : Option ℕ → List ℕ → ℕ → ℕ → Enrolled
 enrolBy (some r) t n type = record { refusal = some r; table = t }
@@ -227,7 +240,7 @@ pub record Closed : Type 0 where
   pub state : State
 
 abbrev pub closeRefusal : ℕ → Option ℕ
-closeRefusal l = refuseIf (not (ltb l lineCount)) wrongLine none
+closeRefusal l = refuseLine l none
 
 abbrev pub closedLine : Hub → ℕ → Hub
 closedLine h l = record { password = h .password; logins = set (h .logins) l false; slots = sessions.closeLine l (h .slots) }
@@ -264,9 +277,7 @@ finish h x room = finishBy (ltb room minRoom) (sessions.finish (h .slots) x) h x
 
 -- when a feed is refused: the table's length, the line, the room
 abbrev pub feedRefusal : List ℕ → ℕ → ℕ → Option ℕ
-feedRefusal t l room =
-    refuseIf (not (eqb (length t) table.tableSize)) wrongTable
-    (refuseIf (not (ltb l lineCount)) wrongLine (refuseIf (ltb room minRoom) shortRoom none))
+feedRefusal t l room = refuseTable t (refuseLine l (refuseIf (ltb room minRoom) shortRoom none))
 
 -- this hub, as a system of feeds
 abbrev pub hub : System
