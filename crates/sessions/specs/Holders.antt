@@ -3,7 +3,7 @@ use Prim.Native.Nat.{ℕ, zero, suc, _+_, _≤_}
 use mathlib.Core.Path.{_≡_, refl, ap, _∙_}
 use mathlib.Core.List.{List, [], _∷_}
 use mathlib.Core.Bool.{Bool, true, false, cond, true≢false, false≢true}
-use mathlib.Core.Option.{Option, none, some}
+use mathlib.Core.Option.{Option}
 use native.Mathlib.Omega.{arith}
 use lib.ListN.{set, getD, replicate}
 use lib.Seq.{getD-set-other}
@@ -14,16 +14,12 @@ use Rattle.sessions.specs.declared.Slot.{Slot}
 use Rattle.sessions.specs.declared.ModeSend.{ModeSend}
 use Rattle.sessions.specs.Search.{any, first, member}
 use Rattle.sessions.specs.Sessions.{targetCount, closedSlot, isFree, isNumbered, holds, close, named, marked, sessionSlot, modeSend, Finished, finish}
+unfoldable pub use Rattle.sessions.specs.Sessions.{holders, leftBy}
 use Rattle.sessions.specs.SessionLaws.{modeSend-leaves}
 
 -- one, if a test holds
-abbrev pub count : Bool → ℕ
+abbrev count : Bool → ℕ
 count b = cond b 1 0
-
--- in how many open sessions a node is
-unfoldable pub holders : ℕ → List Slot → ℕ
-holders n [] = 0
-holders n (s ∷ ss) = count (holds n s) + holders n ss
 
 -- a slot set anew adds at most its own
 pub set-holders : (n : ℕ) (ss : List Slot) (k : ℕ) (s : Slot) → holders n (set ss k s) ≤ count (holds n s) + holders n ss
@@ -96,11 +92,7 @@ modeSend-holders n ss t l r h = modeSend-leaves (λ (vs : List Slot). holders n 
         at-most false = omega arith
     taken false x e = omega (arith, set-holders n ss (first isFree ss) (sessionSlot l r), ap count (not-held n l r x))
 
--- the slots that a finish leaves
-abbrev pub leftBy : Option Finished → List Slot → List Slot
-leftBy none ss = ss
-leftBy (some f) ss = f .slots
-
+-- nor does a finish
 pub finish-holders : (n : ℕ) (ss : List Slot) (x : ℕ) → holders n (leftBy (finish ss x) ss) ≤ holders n ss
 unfolding finish
 finish-holders n ss x =

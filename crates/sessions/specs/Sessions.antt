@@ -40,6 +40,11 @@ isOn l s = s .used && eqb (s .line) l
 abbrev pub holds : ℕ → Slot → Bool
 holds n s = s .used && getD (s .nodes) n false
 
+-- in how many open sessions a node is
+unfoldable pub holders : ℕ → List Slot → ℕ
+holders n [] = 0
+holders n (s ∷ ss) = cond (holds n s) 1 0 + holders n ss
+
 -- the sessions that pass a test are closed
 abbrev pub closeIf : (Slot → Bool) → Slot → Slot
 closeIf p s = cond (p s) closedSlot s
@@ -108,11 +113,17 @@ targetsLegal t seen (n ∷ ns) = ltb n targetCount && (inUse t n && (not (member
 abbrev pub originators : List ℕ
 originators = 1 ∷ 2 ∷ 3 ∷ 5 ∷ 8 ∷ 9 ∷ 11 ∷ 12 ∷ 13 ∷ 255 ∷ []
 
+abbrev pub maxPriority : ℕ
+maxPriority = 7
+
+abbrev pub maxLock : ℕ
+maxLock = 1
+
 -- status 5 if count is not 1 to 20, for an index, priority above 7, lock above 1, or an originator that is not one of these
 unfoldable pub isLegal : List ℕ → ModeSend → Bool
 isLegal t r =
     leb 1 (r .count) && (leb (r .count) maxIndices && (targetsLegal t [] (named r)
-    && (leb (r .priority) 7 && (leb (r .lock) 1 && member (r .originator) originators))))
+    && (leb (r .priority) maxPriority && (leb (r .lock) maxLock && member (r .originator) originators))))
 
 -- the nodes of a session, marked
 unfoldable pub marked : List Bool → List ℕ → List Bool
@@ -143,6 +154,11 @@ unfoldable pub finish : List Slot → ℕ → Option Finished
 finish ss x =
     let k = first (isNumbered x) ss in
     cond (any (isNumbered x) ss) (some (record { line = getD ss k closedSlot .line; slots = set ss k closedSlot })) none
+
+-- the slots that a finish leaves
+abbrev pub leftBy : Option Finished → List Slot → List Slot
+leftBy none ss = ss
+leftBy (some f) ss = f .slots
 
 -- the same as the code tells it: the slots stay as they were where the number is not open
 abbrev pub ended : List Slot → Option Finished → Ended

@@ -9,6 +9,11 @@ pub const TARGETS: usize = 200;
 
 pub const INDICES: usize = 20;
 
+// The greatest priority and lock of a mode send.
+pub const MAX_PRIORITY: u8 = 7;
+
+pub const MAX_LOCK: u8 = 1;
+
 // The statuses of a mode send.
 pub const ACCEPTED: u8 = 0;
 

@@ -24,10 +24,10 @@ pub fn is_legal(table: &[u8], request: ModeSend) -> bool
     if !targets_legal(table, &indices[..count]) {
         return false;
     }
-    if 7 < request.priority {
+    if sessions::MAX_PRIORITY < request.priority {
         return false;
     }
-    if 1 < request.lock {
+    if sessions::MAX_LOCK < request.lock {
         return false;
     }
     let known = ORIGINATORS;
