@@ -56,7 +56,7 @@ fn find(command: u16) -> Found
     Found::Nothing
 }
 
-// The entry at a place that there is.
+// The entry at a place within the directory.
 fn read(place: usize) -> Entry
     requires { ⌜ place < length directory ⌝ }
     ensures { λ r. ⌜ getElem? directory place ≡ some r ⌝ }

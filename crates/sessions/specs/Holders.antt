@@ -92,7 +92,7 @@ modeSend-holders n ss t l r h = modeSend-leaves (λ (vs : List Slot). holders n 
         at-most false = omega arith
     taken false x e = omega (arith, set-holders n ss (first isFree ss) (sessionSlot l r), ap count (not-held n l r x))
 
--- nor does a finish
+-- a finish adds nothing
 pub finish-holders : (n : ℕ) (ss : List Slot) (x : ℕ) → holders n (leftBy (finish ss x) ss) ≤ holders n ss
 unfolding finish
 finish-holders n ss x =

@@ -6,7 +6,7 @@ use mathlib.Core.Bool.{Bool, true, false, cond, not, _&&_, true≢false, false�
 use mathlib.Core.Option.{Option, none, some}
 use native.Mathlib.Numerals.{add-one}
 use native.Mathlib.Omega.{arith}
-use lib.ListN.{length, take, drop, getD, set, replicate, length-map, length-set, drop-of-length-le}
+use lib.ListN.{length, take, drop, getD, set, replicate, length-set, drop-of-length-le}
 use lib.Seq.{drop-cons, take-suc}
 use lib.Dec.{leb, ltb, eqb}
 use borrow.Author.Tests.{leb-true}
@@ -19,7 +19,7 @@ use Rattle.sessions.specs.declared.Told.the-variants.{Line, NotOpen}
 use Rattle.sessions.specs.declared.Ended.{Ended}
 use Rattle.sessions.specs.Search.{any, first, member, below}
 use Rattle.sessions.specs.SearchLaws.{member-last}
-use Rattle.sessions.specs.Sessions.{closedSlot, isOn, closeLine, holdsRemoved, closeRemoved, isFree, isNumbered, holds, closeIf, close, closeAll, targetCount, maxIndices, named, targetsLegal, isLegal, marked, sessionSlot, modeSend, Finished, ended}
+use Rattle.sessions.specs.Sessions.{closedSlot, isOn, closeLine, holdsRemoved, closeRemoved, isFree, isNumbered, holds, close, closeAll, targetCount, maxIndices, named, targetsLegal, isLegal, marked, sessionSlot, modeSend, Finished, ended}
 
 -- a mode send leaves the slots, or opens a session in the lowest free one, of whose nodes none is held
 pub modeSend-leaves : (P : List Slot → Type 0) (ss : List Slot) (t : List ℕ) (l : ℕ) (r : ModeSend) → P ss
@@ -31,10 +31,7 @@ modeSend-leaves P ss t l r same opened =
     (either (λ (s : Sent). P (s .slots)) (not (any isFree ss)) _ _ same
     (either-by (λ (s : Sent). P (s .slots)) (any (λ n. any (holds n) ss) (named r)) _ _ (λ e. same) opened)))
 
--- there are as many slots after a close or a mode send as before
-pub close-length : (p : Slot → Bool) (ss : List Slot) → length (close p ss) ≡ length ss
-close-length p ss = length-map ss (closeIf p)
-
+-- there are as many slots after a mode send as before
 pub modeSend-length : (ss : List Slot) (t : List ℕ) (l : ℕ) (r : ModeSend) → length (modeSend ss t l r .slots) ≡ length ss
 modeSend-length ss t l r = modeSend-leaves (λ (vs : List Slot). length vs ≡ length ss) ss t l r refl (λ e. length-set ss (first isFree ss) (sessionSlot l r))
 

@@ -1,5 +1,5 @@
 // The session slots: a free one, one found by its number, and finishing it (document 01, host calls).
-// Each answer is the definition's: crate sessions, specs/Sessions.antt. It stands on the sessions' rules and the node table.
+// Each answer is the definition's: crate sessions, specs/Sessions.antt. It stands on the sessions' rules.
 ghost use mathlib.Core.Path.{_≡_};
 ghost use lib.ListN.{replicate};
 ghost use Rattle.sessions.specs.Search.{first};
@@ -37,40 +37,6 @@ pub fn finish(slots: [Slot; sessions::SLOTS], number: u16) -> Ended
     }
 }
 
-// A free slot.
-pub fn closed_slot() -> Slot
-    ensures { λ r. ⌜ r ≡ closedSlot ⌝ }
-{
-    Slot {
-        used: false,
-        number: 0,
-        line: 0,
-        nodes: [false; sessions::TARGETS],
-    }
-}
-
-// Whether an open session has a number, holds a node.
-fn is_numbered(slot: Slot, number: u16) -> bool
-    ensures { λ r. ⌜ r ≡ isNumbered number slot ⌝ }
-{
-    if slot.used {
-        return slot.number == number;
-    }
-    false
-}
-
-pub fn holds(slot: Slot, node: usize) -> bool
-    ensures { λ r. ⌜ r ≡ holds node slot ⌝ }
-{
-    if slot.used {
-        if node < sessions::TARGETS {
-            let nodes = slot.nodes;
-            return nodes[node];
-        }
-    }
-    false
-}
-
 // The lowest slot with a number; `SLOTS` where there is none.
 pub fn first_numbered(slots: [Slot; sessions::SLOTS], number: u16) -> usize
     ensures { λ r. ⌜ r ≡ first (isNumbered number) slots ⌝ }
@@ -83,4 +49,39 @@ pub fn first_numbered(slots: [Slot; sessions::SLOTS], number: u16) -> usize
         k += 1;
     }
     k
+}
+
+// Whether an open session holds a node.
+pub fn holds(slot: Slot, node: usize) -> bool
+    ensures { λ r. ⌜ r ≡ holds node slot ⌝ }
+{
+    if slot.used {
+        if node < sessions::TARGETS {
+            let nodes = slot.nodes;
+            return nodes[node];
+        }
+    }
+    false
+}
+
+// A free slot.
+pub fn closed_slot() -> Slot
+    ensures { λ r. ⌜ r ≡ closedSlot ⌝ }
+{
+    Slot {
+        used: false,
+        number: 0,
+        line: 0,
+        nodes: [false; sessions::TARGETS],
+    }
+}
+
+// Whether an open session has a number.
+fn is_numbered(slot: Slot, number: u16) -> bool
+    ensures { λ r. ⌜ r ≡ isNumbered number slot ⌝ }
+{
+    if slot.used {
+        return slot.number == number;
+    }
+    false
 }

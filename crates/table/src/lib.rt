@@ -25,14 +25,6 @@ pub fn is_removed(table: &[u8], bits: &[u8], k: usize) -> bool
     false
 }
 
-fn bit(bits: &[u8], k: usize) -> bool
-    ensures { λ r. ⌜ r ≡ bit (now (bits .entry)) k ⌝ }
-{
-    let byte = octets::byte(bits, k / 8);
-    let shift = (k % 8) as u8;
-    (byte >> shift) % 2 == 1
-}
-
 // The nodes in use that the bits name are removed.
 pub fn remove(table: &mut [u8], bits: &[u8])
     ensures { λ r. ⌜ now (table .exit) ≡ remove (now (bits .entry)) (now (table .entry)) ⌝ }
@@ -51,4 +43,13 @@ fn remove_one(table: &mut [u8], bits: &[u8], k: usize)
     if is_removed(table, bits, k) {
         store::fill(table, k * nodes::RECORD, nodes::RECORD, 0);
     }
+}
+
+// Whether the bits name node k.
+fn bit(bits: &[u8], k: usize) -> bool
+    ensures { λ r. ⌜ r ≡ bit (now (bits .entry)) k ⌝ }
+{
+    let byte = octets::byte(bits, k / 8);
+    let shift = (k % 8) as u8;
+    (byte >> shift) % 2 == 1
 }

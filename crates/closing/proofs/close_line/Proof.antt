@@ -6,6 +6,7 @@ use Rattle.closing.proofs.Laws.{DoneBelow, done-more, done-all}
 use Rattle.closing.proofs.close_line.Statement.{statement}
 use Rattle.closing.proofs.close_line.Tie as tie
 
+-- The slots below k are done and the others as they were: each turn does the slot at k.
 abbrev Inv-loop : tie.InvT-loop
 Inv-loop line slots out₀ k₀ out k = DoneBelow (closeIf (isOn line)) slots out k
 
