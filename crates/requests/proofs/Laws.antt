@@ -1,17 +1,17 @@
--- Laws of the requests: what they leave and answer.
+-- Laws of the requests: what is written and left is the definition's reply.
 use Prim.Native.Nat.{ℕ, _≤_}
-use mathlib.Core.Path.{_≡_, refl}
-use mathlib.Core.List.{List, [], _∷_, _++_}
-use mathlib.Core.Bool.{Bool, true, false, cond}
+use mathlib.Core.Path.{refl}
+use mathlib.Core.List.{List, [], _∷_}
 use native.Mathlib.Omega.{arith}
 use lib.ListN.{length}
-use Rattle.frame.specs.Frame.{wire}
 use Rattle.frame.specs.Writing.{minRoom}
-use Rattle.nodes.specs.Table.{Result, inUse, information}
+use Rattle.nodes.specs.Table.{Result, inUse}
 use Rattle.nodes.specs.Answers.{Results}
+use Rattle.nodes.specs.Cases.{either}
 use Rattle.rules.specs.declared.Hub.{Hub}
 use Rattle.rules.specs.Hub.{Reply, failure, nodeReply, getNode}
-use Rattle.calls.specs.Replies.{Replied, Serves, reply}
+use Rattle.calls.specs.declared.Served.{Served}
+use Rattle.calls.specs.Replies.{Replied, Serves, Answered, reply}
 use Rattle.calls.specs.ReplyLaws.{replied-whole}
 
 -- ---- one frame, written where it has room, is the definition's reply
@@ -25,14 +25,13 @@ module _ (h : Hub) (room left : List ℕ) (n : ℕ) (fits : minRoom ≤ length r
   pub node-served : (t : List ℕ) (x : Result) (c node s : ℕ) → Results x s t → Replied (reply room c (s ∷ node ∷ [])) room n left → Serves (nodeReply h c node x) room (record { hub = h; len = n }) t left
   node-served t x c node s r p = record { hub = refl; table = r .table; replied = replied-whole _ _ _ _ _ fits (omega arith) (rw (r .status) at p) }
 
--- ---- what a request leaves
+-- ---- a request that changes no table leaves the one that it was lent
 
--- get node information changes nothing
-pub getNode-kept : (h : Hub) (t : List ℕ) (n : ℕ) → (getNode h t n .hub ≡ h) × (getNode h t n .table ≡ t)
-unfolding getNode
-getNode-kept h t n = go (inUse t n)
-  where
-    go : (b : Bool) → (cond {A = Reply} b (record { hub = h; table = t; reply = wire 0x0201 (0 ∷ n ∷ []) ++ wire 0x0210 (information t n) }) (record { hub = h; table = t; reply = wire 0x0201 (2 ∷ n ∷ []) }) .hub ≡ h)
-        × (cond {A = Reply} b (record { hub = h; table = t; reply = wire 0x0201 (0 ∷ n ∷ []) ++ wire 0x0210 (information t n) }) (record { hub = h; table = t; reply = wire 0x0201 (2 ∷ n ∷ []) }) .table ≡ t)
-    go true = (refl, refl)
-    go false = (refl, refl)
+module _ (h : Hub) (t room left : List ℕ) (r : Served) where
+  pub answered-served : (bytes : List ℕ) → Answered h bytes room r left → Serves (record { hub = h; table = t; reply = bytes }) room r t left
+  answered-served bytes a = record { hub = a .hub; table = refl; replied = a .replied }
+
+  -- get node information: so in both its cases
+  pub getNode-served : (n : ℕ) → Answered h (getNode h t n .reply) room r left → Serves (getNode h t n) room r t left
+  unfolding getNode
+  getNode-served n = either (λ (x : Reply). Answered h (x .reply) room r left → Serves x room r t left) (inUse t n) _ _ (answered-served _) (answered-served _)

@@ -1,23 +1,23 @@
-use Rattle.requests.proofs.Laws.{failure-served, getNode-kept}
+use Rattle.requests.proofs.Laws.{failure-served, answered-served, getNode-served}
 use Rattle.directory.specs.Directory.{directory}
 use Rattle.directory.specs.Lookup.{find}
 use Rattle.directory.specs.DirectoryLaws.{fits-fixed}
-use Rattle.rules.specs.Hub.{request, modeSend}
+use Rattle.rules.specs.Hub.{passwordSize, passwordEnter, request, modeSend}
+use Prim.Native.Nat.{_+_}
 use borrow.Author.Tests.{ne-eqb}
-use lib.ListN.{getD}
 use native.Mathlib.Omega.{arith}
-use mathlib.Core.Path.{refl, sym, _∙_}
+use mathlib.Core.Path.{refl}
 use borrow.Author.Needs.{needs}
 use Rattle.requests.proofs.request.Statement.{statement}
 use Rattle.requests.proofs.request.Tie as tie
 
 enter-requires : tie.Need-enter-requires
 unfolding find directory
-enter-requires c κs = (c .before .before .before .before .before .pre .1, fits-fixed 0x3000 32 _ refl (rw (c .before .match .keys1) at (c .before .before .before .before .before .pre .2)))
+enter-requires c κs = (c .before .before .before .before .before .pre .1, fits-fixed passwordEnter passwordSize _ refl (rw (c .before .match .keys1) at (c .before .before .before .before .before .pre .2)))
 
 change-requires : tie.Need-change-requires
 unfolding find directory
-change-requires c κs = (c .before .before .before .before .before .pre .1, fits-fixed 0x3002 64 _ refl (rw (c .before .match .keys2) at (c .before .before .before .before .before .pre .2)))
+change-requires c κs = (c .before .before .before .before .before .pre .1, fits-fixed 0x3002 (passwordSize + passwordSize) _ refl (rw (c .before .match .keys2) at (c .before .before .before .before .before .pre .2)))
 
 shared-slice-read-get-node : tie.Need-shared-slice-read-get-node
 unfolding find directory
@@ -56,14 +56,14 @@ same-length c = search needs
 
 returns : tie.Need-returns
 unfolding request
-returns c = rw (c .before .before .before .before .match .keys1) (record { hub = c .before .before .enter .ensures .hub; table = refl; replied = c .before .before .enter .ensures .replied })
+returns c = rw (c .before .before .before .before .match .keys1) (answered-served _ _ _ _ _ _ (c .before .before .enter .ensures))
 
 same-length-2 : tie.Need-same-length-2
 same-length-2 c = search needs
 
 returns-2 : tie.Need-returns-2
 unfolding request
-returns-2 c = rw (c .before .before .before .before .match .keys2) (record { hub = c .before .before .change .ensures .hub; table = refl; replied = c .before .before .change .ensures .replied })
+returns-2 c = rw (c .before .before .before .before .match .keys2) (answered-served _ _ _ _ _ _ (c .before .before .change .ensures))
 
 same-length-3 : tie.Need-same-length-3
 same-length-3 c = search needs
@@ -73,9 +73,7 @@ same-length-4 c = search needs
 
 returns-3 : tie.Need-returns-3
 unfolding request
-returns-3 c =
-    let k = getNode-kept (c .before .before .before .before .before .before .before .before .before .before .args .hub) (c .before .before .before .before .before .before .before .before .before .before .args .table .now) (getD (c .before .before .before .before .before .before .before .before .before .before .args .payload .now) 0 0) in
-    rw (c .before .before .before .before .before .before .match .keys3) (record { hub = c .before .before .get-node .ensures .hub ∙ sym (k .0); table = sym (k .1); replied = c .before .before .get-node .ensures .replied })
+returns-3 c = rw (c .before .before .before .before .before .before .match .keys3) (getNode-served _ _ _ _ _ _ (c .before .before .get-node .ensures))
 
 same-length-5 : tie.Need-same-length-5
 same-length-5 c = search needs
@@ -135,7 +133,7 @@ same-length-16 c = search needs
 
 returns-9 : tie.Need-returns-9
 unfolding request modeSend
-returns-9 c = rw (c .before .before .before .before .before .match .keys9) (record { hub = c .before .before .mode-send .ensures .hub; table = refl; replied = c .before .before .mode-send .ensures .replied })
+returns-9 c = rw (c .before .before .before .before .before .match .keys9) (answered-served _ _ _ _ _ _ (c .before .before .mode-send .ensures))
 
 same-length-17 : tie.Need-same-length-17
 same-length-17 c = search needs
