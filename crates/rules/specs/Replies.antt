@@ -31,8 +31,8 @@ abbrev loggedIn : Hub
 loggedIn = hubWith (replicate slotCount closedSlot)
 
 -- a hub with another password
-abbrev changed : Hub → Hub
-changed h = record { password = replicate 32 8; logins = h .logins; slots = h .slots }
+abbrev passwordChanged : Hub → Hub
+passwordChanged h = record { password = replicate 32 8; logins = h .logins; slots = h .slots }
 
 -- session 0102 of line 2 with these nodes, and with node n alone
 abbrev session : List Bool → Slot
@@ -98,7 +98,7 @@ errors =
 -- the last 32 bytes become the password, or nothing changes; equal old and new is accepted
 abbrev changes : List Row
 changes =
-    leaves loggedIn 4 (frame 0x3002 (replicate 32 0 ++ replicate 32 8)) (changed loggedIn) (wire 0x3003 (0 ∷ []))
+    leaves loggedIn 4 (frame 0x3002 (replicate 32 0 ++ replicate 32 8)) (passwordChanged loggedIn) (wire 0x3003 (0 ∷ []))
     ∷ answers loggedIn (frame 0x3002 (replicate 31 0 ++ 8 ∷ replicate 32 0)) (wire 0x3003 (1 ∷ []))
     ∷ answers loggedIn (frame 0x3002 (replicate 64 0)) (wire 0x3003 (0 ∷ []))
     ∷ []
@@ -144,7 +144,7 @@ abbrev removals : List Row
 removals =
     row (hubWith (set (moving .slots) 1 (sessionWith 0))) (windows 4) (frame 0x0106 (8 ∷ replicate 25 0))
     (hubWith (set (loggedIn .slots) 1 (sessionWith 0))) (windows 3 ++ replicate recordSize 0) (wire 0x0107 (0 ∷ []))
-    ∷ row (changed moving) (windows 4) (frame 0x0108 []) (changed loggedIn) (replicate (4 * recordSize) 0) (wire 0x0109 [])
+    ∷ row (passwordChanged moving) (windows 4) (frame 0x0108 []) (passwordChanged loggedIn) (replicate (4 * recordSize) 0) (wire 0x0109 [])
     ∷ []
 
 abbrev rows : List Row
