@@ -10,7 +10,7 @@ use Rattle.frame.specs.Frame.{wire, maxData}
 use Rattle.frame.specs.Writing.{minRoom}
 use Rattle.nodes.specs.Table.{tableSize}
 use Rattle.rules.specs.declared.Hub.{Hub}
-use Rattle.rules.specs.Hub.{Reply, frameError, passwordSize, Password, change}
+use Rattle.rules.specs.Hub.{Reply, frameError, passwordSize}
 use Rattle.calls.specs.declared.Served.{Served}
 
 -- a reply stands at the room's front, its length is told, and what stood behind it stays
@@ -45,10 +45,6 @@ pub record Answered (h : Hub) (reply : List ℕ) (room : List ℕ) (r : Served) 
 -- the password in the data d from the place i on: 32 bytes, of which those that are missing are 0
 abbrev pub passwordAt : List ℕ → ℕ → List ℕ
 passwordAt d i = sets (replicate passwordSize 0) 0 (drop i d)
-
--- password change by its data, the old and then the new
-abbrev pub changed : Hub → List ℕ → Password
-changed h d = change h (take passwordSize d) (drop passwordSize d)
 
 -- with a table or room of another length nothing is served
 abbrev pub served : List ℕ → List ℕ → Hub → Reply → Reply

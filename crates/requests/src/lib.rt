@@ -11,8 +11,8 @@ ghost use Rattle.nodes.specs.Table.{tableSize, setName, setOrderAndPlacement, s
 ghost use Rattle.sessions.specs.Sessions.{closeAll};
 ghost use Rattle.directory.specs.declared.Verdict.the-variants.{Fits};
 ghost use Rattle.directory.specs.Lookup.{verdict};
-ghost use Rattle.rules.specs.Hub.{passwordSize, enter, getNode, nodeReply, removeNodes, virginState, modeSend, request, mayAsk, serve};
-ghost use Rattle.calls.specs.Replies.{Replied, Serves, Answered, changed, served, refusal};
+ghost use Rattle.rules.specs.Hub.{passwordSize, enter, changed, getNode, nodeReply, removeNodes, virginState, modeSend, request, mayAsk, serve};
+ghost use Rattle.calls.specs.Replies.{Replied, Serves, Answered, served, refusal};
 use calls::Served;
 use directory::Verdict;
 use rules::Hub;
