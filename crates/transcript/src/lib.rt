@@ -1,3 +1,5 @@
-// What `replay` writes of the hub: the lines of its state and of its calls' answers (docs/REPLAY.md).
-// It has no code. The state's lines are specs/State.antt, the answers' specs/Replies.antt; the code is in `showing` and `answering`.
-// It stands on the lines of `answers`, and on what the line and the frame layer, the node table, the sessions and the hub state.
+// What `replay` does and writes: a line's call made on hub, table and readings, its answer, and the state (docs/REPLAY.md).
+// It has no code. A line played is specs/Playing.antt, the answers' lines specs/Replies.antt, the state's specs/State.antt; the code is in
+// `playing`, `answering` and `showing`.
+// It stands on the script's calls and the lines of `answers`, and on what the line and the frame layer, the node table, the sessions, the
+// lists of feeds and the hub state.
