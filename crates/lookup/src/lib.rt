@@ -5,6 +5,7 @@ ghost use mathlib.Core.Path.{_≡_};
 ghost use mathlib.Core.Option.{some};
 ghost use lib.ListN.{length, getElem?};
 ghost use Rattle.directory.specs.Directory.{directory};
+ghost use Rattle.directory.specs.Code.{unpacked};
 ghost use Rattle.directory.specs.Lookup.{find, verdict, told};
 use directory::Entry;
 use directory::Found;
@@ -45,9 +46,10 @@ pub fn entry_at(place: usize) -> Found
 fn find(command: u16) -> Found
     ensures { λ r. ⌜ told r ≡ find command directory ⌝ }
 {
+    let entries = ENTRIES;
     let mut place = 0;
     while place < COUNT {
-        let entry = read(place);
+        let entry = entry_of(entries[place]);
         if entry.number == command {
             return Found::Listed(entry);
         }
@@ -61,7 +63,13 @@ fn read(place: usize) -> Entry
     requires { ⌜ place < length directory ⌝ }
     ensures { λ r. ⌜ getElem? directory place ≡ some r ⌝ }
 {
-    let word = ENTRIES[place];
+    entry_of(ENTRIES[place])
+}
+
+// The entry that a number is.
+fn entry_of(word: u32) -> Entry
+    ensures { λ r. ⌜ r ≡ unpacked word ⌝ }
+{
     let number = (word >> 16) as u16;
     let least = ((word >> 8) % 256) as u8;
     let greatest = (word % 256) as u8;

@@ -1,6 +1,8 @@
 // What the replayed calls answer: lines of text, appended to lent memory at a place.
 // A line is written whole or not at all, and is the definition's to the byte: specs/Report.antt of `answers`.
 // It stands on the pieces of a line: words, and numbers between them. Lines with a reply are in `replied`.
+ghost use mathlib.Core.Bool.{not, _||_};
+ghost use lib.Dec.{eqb};
 ghost use mathlib.Core.Path.{_≡_};
 ghost use Rattle.text.specs.Appended.{appended, Leaves};
 ghost use Rattle.answers.specs.Report.{badLine, doneLine, refusedLine, hasSpilled};
@@ -44,12 +46,21 @@ pub fn refused_line(out: &mut [u8], at: usize, number: u8, spilled: bool) -> usi
 pub fn spilled(room: &[u8], from: usize, filler: u8) -> bool
     ensures { λ r. ⌜ r ≡ hasSpilled (now (room .entry)) from filler ⌝ }
 {
+    let mut found = false;
     let mut i = from;
     while i < room.len() {
-        if room[i] != filler {
-            return true;
-        }
+        found = or_other(found, room[i], filler);
         i += 1;
     }
-    false
+    found
+}
+
+// Whether one was found before, or this byte is one. All bytes are looked at: a loop without an early end is the faster one.
+fn or_other(found: bool, byte: u8, filler: u8) -> bool
+    ensures { λ r. ⌜ r ≡ (found || not (eqb byte filler)) ⌝ }
+{
+    if found {
+        return true;
+    }
+    byte != filler
 }

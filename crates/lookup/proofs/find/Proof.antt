@@ -1,10 +1,13 @@
 use Prim.Native.Nat.{_-_, _≤_}
 use mathlib.Core.Path.{_≡_, refl, sym, _∙_}
+use mathlib.Core.Option.{some}
 use native.Mathlib.Numerals.{add-one}
 use native.Mathlib.Omega.{arith}
-use lib.ListN.{length, drop}
+use lib.ListN.{length, drop, getElem?}
+use borrow.Author.Needs.{needs}
 use borrow.Author.Tests.{eq-eqb, ne-eqb}
 use Rattle.directory.specs.Directory.{directory}
+use Rattle.directory.specs.CodeLaws.{read-there}
 use Rattle.directory.specs.Lookup.{find}
 use Rattle.directory.specs.LookupLaws.{find-on, find-found, find-end}
 use Rattle.directory.specs.DirectoryLaws.{directory-count}
@@ -13,23 +16,31 @@ use Rattle.lookup.proofs.find.Tie as tie
 
 -- What is to be found is found from the place on.
 abbrev Inv-loop : tie.InvT-loop
-Inv-loop command place₀ place = (place ≤ length directory) × (find command directory ≡ find command (drop place directory))
+Inv-loop command entries place₀ place = (place ≤ length directory) × (find command directory ≡ find command (drop place directory))
 
 abbrev μ-loop : tie.MeasureT-loop
-μ-loop command place₀ place = length directory - place
+μ-loop command entries place₀ place = length directory - place
 
 loop-holds : tie.Need-loop-holds Inv-loop μ-loop
 loop-holds c = (omega arith, refl)
 
-read-requires : tie.Need-read-requires Inv-loop μ-loop
-read-requires c κs = omega (arith, directory-count)
+mul-entry-of : tie.Need-mul-entry-of Inv-loop μ-loop
+mul-entry-of c = omega (arith, directory-count)
+
+array-read-entry-of : tie.Need-array-read-entry-of Inv-loop μ-loop
+array-read-entry-of c = search needs
+
+entry-of-requires : tie.Need-entry-of-requires Inv-loop μ-loop
+entry-of-requires c κs = search needs
 
 returns : tie.Need-returns Inv-loop μ-loop
+unfolding directory
 returns c =
     let loop = c .before .before .before .before in
     let command = loop .before .args .command in
-    let entry = c .before .before .read in
-    sym (loop .loop .inv .1 ∙ find-found command directory (loop .loop .place) (entry .result) (entry .ensures) (eq-eqb _ _ (c .if1 .taken)))
+    let entry = c .before .before .entry-of in
+    let there : getElem? directory (loop .loop .place) ≡ some (entry .result) = rw (entry .ensures) (read-there (loop .loop .place) (omega (arith, directory-count))) in
+    sym (loop .loop .inv .1 ∙ find-found command directory (loop .loop .place) (entry .result) there (eq-eqb _ _ (c .if1 .taken)))
 
 add-place : tie.Need-add-place Inv-loop μ-loop
 add-place c = omega (arith, directory-count)
@@ -38,13 +49,15 @@ loop-less : tie.Need-loop-less Inv-loop μ-loop
 loop-less c = omega (arith, directory-count)
 
 loop-again : tie.Need-loop-again Inv-loop μ-loop
+unfolding directory
 loop-again c =
     let loop = c .before .before .before .before in
     let command = loop .before .args .command in
-    let entry = c .before .before .read in (
+    let entry = c .before .before .entry-of in
+    let there : getElem? directory (loop .loop .place) ≡ some (entry .result) = rw (entry .ensures) (read-there (loop .loop .place) (omega (arith, directory-count))) in (
       omega (arith, directory-count),
       loop .loop .inv .1
-          ∙ rw add-one (find-on command directory (loop .loop .place) (entry .result) (entry .ensures) (ne-eqb _ _ (c .if1 .left))),
+          ∙ rw add-one (find-on command directory (loop .loop .place) (entry .result) there (ne-eqb _ _ (c .if1 .left))),
     )
 
 returns-2 : tie.Need-returns-2 Inv-loop μ-loop
@@ -55,4 +68,15 @@ returns-2 c =
 pub find-spec : {M : Type 1} → statement M
 find-spec =
     tie.close
-    (tie.spec Inv-loop μ-loop loop-holds read-requires returns add-place loop-less loop-again returns-2)
+    (tie.spec
+    Inv-loop
+    μ-loop
+    loop-holds
+    mul-entry-of
+    array-read-entry-of
+    entry-of-requires
+    returns
+    add-place
+    loop-less
+    loop-again
+    returns-2)
