@@ -1,11 +1,11 @@
 // Boundary cases of reading, run and held to the file stdout: the line reader on wire bytes, whole and cut in two at every place,
 // and on records that claim too much; such records, lent to the hub.
-use calls::Fed;
 use libc::STDOUT_FILENO;
 use line::Fault;
 use line::Mode;
-use line::Outcome;
+use line::PacketOutcome;
 use line::Reading;
+use rules::Fed;
 
 // Where a text ends, and the record after the bytes read so far.
 struct Run {
@@ -63,27 +63,27 @@ fn number_of(fault: Fault) -> u64 {
 fn put_held(out: &mut [u8], at: usize, word: &[u8], reading: Reading, n: usize) -> usize {
     let bytes = reading.bytes;
     if line::LIMIT < n {
-        return words::append(out, at, &TOO_MANY);
+        return text::append(out, at, &TOO_MANY);
     }
-    hexes::bytes_line(out, at, word, n as u64, &GAP, &bytes[0..n], &NONE)
+    text::bytes_line(out, at, word, n as u64, &GAP, &bytes[0..n], &NONE)
 }
 
-fn put_outcome(out: &mut [u8], at: usize, outcome: Outcome, reading: Reading) -> usize {
+fn put_outcome(out: &mut [u8], at: usize, outcome: PacketOutcome, reading: Reading) -> usize {
     match outcome {
-        Outcome::Nothing => at,
-        Outcome::Packet(n) => put_held(out, at, &PACKET, reading, n),
-        Outcome::Refused(fault) => {
-            numbered::append_numbered(out, at, &REFUSED, number_of(fault), &NONE)
+        PacketOutcome::Nothing => at,
+        PacketOutcome::Packet(n) => put_held(out, at, &PACKET, reading, n),
+        PacketOutcome::Refused(fault) => {
+            text::append_numbered(out, at, &REFUSED, number_of(fault), &NONE)
         }
     }
 }
 
 fn put_mode(out: &mut [u8], at: usize, mode: Mode) -> usize {
     match mode {
-        Mode::Plain => words::append(out, at, &PLAIN),
-        Mode::Escaped => words::append(out, at, &ESCAPED),
+        Mode::Plain => text::append(out, at, &PLAIN),
+        Mode::Escaped => text::append(out, at, &ESCAPED),
         Mode::Skipping(fault) => {
-            numbered::append_numbered(out, at, &SKIPPING, number_of(fault), &HOLDS)
+            text::append_numbered(out, at, &SKIPPING, number_of(fault), &HOLDS)
         }
     }
 }
@@ -92,10 +92,10 @@ fn put_mode(out: &mut [u8], at: usize, mode: Mode) -> usize {
 fn put_reading(out: &mut [u8], at: usize, reading: Reading) -> usize {
     let mode = reading.mode;
     let count = reading.count;
-    let bar = words::append(out, at, &BAR);
+    let bar = text::append(out, at, &BAR);
     let claims = put_mode(out, bar, mode);
     let held = put_held(out, claims, &GAP, reading, count);
-    words::append(out, held, &LINE_END)
+    text::append(out, held, &LINE_END)
 }
 
 // Calls the reader until all bytes are used.
@@ -104,7 +104,7 @@ fn read_all(out: &mut [u8], start: Run, wire: &[u8]) -> Run {
     let mut reading = start.reading;
     let mut place = 0;
     while place < wire.len() {
-        let answer = wire::read(reading, &wire[place..]);
+        let answer = line::read(reading, &wire[place..]);
         let used = answer.used;
         let outcome = answer.outcome;
         reading = answer.reading;
@@ -119,7 +119,7 @@ fn put_cut(out: &mut [u8], wire: &[u8], place: usize) -> usize {
     if wire.len() < place {
         return 0;
     }
-    let reading = wire::emptied();
+    let reading = line::emptied();
     let start = Run { at: 0, reading };
     let half = read_all(out, start, &wire[0..place]);
     let whole = read_all(out, half, &wire[place..]);
@@ -134,7 +134,7 @@ fn cut_agrees(wire: &[u8], place: usize, whole: &[u8]) -> bool {
     if PAGE < end {
         return false;
     }
-    octets::is_same(&page[0..end], whole)
+    memory::is_same(&page[0..end], whole)
 }
 
 fn cuts_agree(wire: &[u8], whole: &[u8]) -> bool {
@@ -157,7 +157,7 @@ fn show_case(name: &[u8], n: usize, tail: &[u8]) {
         return;
     }
     let end = 1 + n;
-    store::copy(&mut wire, end, tail);
+    memory::copy(&mut wire, end, tail);
     io::write_all(STDOUT_FILENO, name);
     show_cuts(&wire[0..end + tail.len()]);
 }
@@ -227,7 +227,7 @@ fn show_record(mode: Mode, count: usize, wire: &[u8]) {
     let lent = Reading { bytes, count, mode };
     let mut page = [0u8; PAGE];
     let title = put_title(&mut page, &RECORD, mode, count);
-    let reads = hexes::bytes_line(
+    let reads = text::bytes_line(
         &mut page,
         title,
         &READS,
@@ -236,7 +236,7 @@ fn show_record(mode: Mode, count: usize, wire: &[u8]) {
         wire,
         &COLON,
     );
-    let answer = wire::read(lent, wire);
+    let answer = line::read(lent, wire);
     let outcome = answer.outcome;
     let after = answer.reading;
     let told = put_outcome(&mut page, reads, outcome, after);
@@ -245,9 +245,9 @@ fn show_record(mode: Mode, count: usize, wire: &[u8]) {
 }
 
 fn put_title(out: &mut [u8], word: &[u8], mode: Mode, count: usize) -> usize {
-    let at = words::append(out, 0, word);
+    let at = text::append(out, 0, word);
     let claims = put_mode(out, at, mode);
-    numbered::append_numbered(out, claims, &GAP, count as u64, &NONE)
+    text::append_numbered(out, claims, &GAP, count as u64, &NONE)
 }
 
 // The same count in every mode.
@@ -271,9 +271,9 @@ fn show_fed(mode: Mode, count: usize) {
     let bytes = [0x55u8; line::LIMIT];
     let reading = Reading { bytes, count, mode };
     let mut table = [0u8; nodes::TABLE];
-    let mut room = [answering::FILLER; frame::ROOM];
+    let mut room = [transcript::FILLER; frame::ROOM];
     let wire = b"\x00\x03\x00\x01\x02\xC0";
-    let fed = lending::feed(host::first(), &mut table, reading, 0, wire, &mut room);
+    let fed = hub::feed_by_value(hub::first(), &mut table, reading, 0, wire, &mut room);
     show_told(mode, count, fed, &room);
 }
 
@@ -283,7 +283,7 @@ fn show_told(mode: Mode, count: usize, fed: Fed, room: &[u8]) {
     let mut page = [0u8; PAGE];
     let title = put_title(&mut page, &HUB, mode, count);
     let record = put_reading(&mut page, title, after);
-    let end = answering::feed_line(&mut page, record, answer, room);
+    let end = transcript::feed_line(&mut page, record, answer, room);
     print(&page, end);
 }
 

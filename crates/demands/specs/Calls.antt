@@ -7,11 +7,11 @@ use mathlib.Core.Option.{Option, none, some}
 use lib.ListN.{length, getD, set}
 use lib.Dec.{eqb}
 use Rattle.frame.specs.Frame.{Outcome, frame, refused}
-use Rattle.frame.specs.Reading.{State}
+use Rattle.frame.specs.Reader.{State}
 use Rattle.feeds.specs.System as feeds
 use Rattle.feeds.specs.Marks.{outcomeOf}
 use Rattle.rules.specs.declared.Hub.{Hub}
-use Rattle.octets.specs.Octets.{same}
+use Rattle.memory.specs.Octets.{same}
 use Rattle.rules.specs.Hub as rules
 
 -- the hub, its table and the four lines' reading states

@@ -12,7 +12,7 @@ use Rattle.line.specs.declared.Reading.{Reading}
 use Rattle.frame.specs.Line as line
 use Rattle.frame.specs.Frame as frames
 use Rattle.frame.specs.Frame.{frame, wire, framed, body, judge}
-use Rattle.frame.specs.Reading.{END, escape, onward, scan, emptied, emptiedReading, inner, verdict, step}
+use Rattle.frame.specs.Reader.{END, escape, onward, scan, emptied, emptiedReading, inner, verdict, step}
 use Rattle.frame.specs.Damage.{Damage, replaced, further}
 use Rattle.frame.specs.Xor.{_⊕_, xorAll}
 use Rattle.directory.specs.Directory.{directory}
@@ -23,7 +23,7 @@ use Rattle.feeds.specs.Marks.{answers, countOf, outcomeOf, counted, usedOn, mar
 use Rattle.feeds.specs.Sent.{Sent, enclosed, sent}
 use Rattle.feeds.specs.Service.{worldOf}
 use Rattle.feeds.specs.AnyHub.{DamageIsolated, damage-isolated}
-use Rattle.octets.specs.Octets.{same}
+use Rattle.memory.specs.Octets.{same}
 use Rattle.rules.specs.Hub as rules
 use Rattle.rules.specs.Hub.{firstHub, hub, serve}
 use Rattle.demands.specs.Calls.{World}

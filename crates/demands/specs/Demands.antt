@@ -11,8 +11,8 @@ use lib.Seq.{set-getD}
 use Rattle.line.specs.declared.Reading.{Reading}
 use Rattle.frame.specs.Frame as packet
 use Rattle.frame.specs.Frame.{Outcome}
-use Rattle.frame.specs.Reading.{also, outcomes, final, State, emptied, step, read, taken}
-use Rattle.frame.specs.ReadingLaws.{scan-tells, used-all}
+use Rattle.frame.specs.Reader.{also, outcomes, final, State, emptied, step, read, taken}
+use Rattle.frame.specs.ReaderLaws.{scan-tells, used-all}
 use Rattle.feeds.specs.System.{Entry, Answer, refused, told, Result, Called, serveIf, settled, decided, call, results, endState, errorReply}
 use Rattle.feeds.specs.Marks.{answersOf, usedOn, toldOn, unmarked}
 use Rattle.feeds.specs.Sent.{Sent, frameOf, sent}

@@ -6,8 +6,8 @@ use mathlib.Core.Option.{none, some}
 use native.Mathlib.Omega.{arith}
 use lib.ListN.{length}
 use Rattle.frame.specs.Frame as frames
-use Rattle.frame.specs.Reading.{State, emptied, read}
-use Rattle.frame.specs.Writing.{minRoom}
+use Rattle.frame.specs.Reader.{State, emptied, read}
+use Rattle.frame.specs.Writer.{minRoom}
 use Rattle.nodes.specs.Table.{tableSize}
 use Rattle.feeds.specs.System.{told, call, errorReply}
 use Rattle.feeds.specs.Marks.{answersOf, usedOn}

@@ -7,10 +7,10 @@ use Rattle.line.specs.declared.Reading.{Reading}
 use Rattle.feeds.specs.Service.{Lent, Got, recordFor, leftBy}
 use Rattle.rules.specs.Hub.{hub}
 use Rattle.demands.specs.Steps.{Memory, Step, close, feed, Return, closed, fed, lineRecord, Made, Chain}
-use Rattle.calls.specs.Answers.{closedOf, fedOf}
-use Rattle.calls.specs.declared.ClosedLent.{ClosedLent}
-use Rattle.calls.specs.declared.FedLent.{FedLent}
-use Rattle.calls.specs.Lent.{closedAnswer, ClosesLent, fedAnswer, FeedsLent}
+use Rattle.rules.specs.Answers.{closedOf, fedOf}
+use Rattle.rules.specs.declared.ClosedLent.{ClosedLent}
+use Rattle.rules.specs.declared.FedLent.{FedLent}
+use Rattle.rules.specs.Lent.{closedAnswer, ClosesLent, fedAnswer, FeedsLent}
 
 -- what a feed gives back: its answer and the hub, and table, record and room where they lie
 pub record Back : Type 0 where

@@ -10,30 +10,30 @@ use lib.Seq.{take-append-seam}
 use lib.Dec.{ltb, eqb}
 use Rattle.line.specs.declared.Reading.{Reading}
 use Rattle.line.specs.declared.Mode.the-variants.{Plain}
-use Rattle.frame.specs.declared.Refusal.{Refusal as Cause}
-use Rattle.frame.specs.declared.Refusal.the-variants as cause
-use Rattle.frame.specs.declared.Outcome.{Outcome as Given}
-use Rattle.frame.specs.declared.Outcome.the-variants as given
+use Rattle.frame.specs.declared.PacketRefusal.{PacketRefusal as Cause}
+use Rattle.frame.specs.declared.PacketRefusal.the-variants as cause
+use Rattle.frame.specs.declared.FrameOutcome.{FrameOutcome as Given}
+use Rattle.frame.specs.declared.FrameOutcome.the-variants as given
 use Rattle.frame.specs.Frame.{Outcome, frame, refused, refusal, head}
 use Rattle.frame.specs.Answers as answers
 use Rattle.frame.specs.Line.{limit, recordOf, taken-held, taken-record, record-bounded}
-use Rattle.frame.specs.Reading.{State, emptiedReading, held, taken, read}
-use Rattle.frame.specs.ReadingLaws.{closed-number, read-told, read-held, read-data}
+use Rattle.frame.specs.Reader.{State, emptiedReading, held, taken, read}
+use Rattle.frame.specs.ReaderLaws.{closed-number, read-told, read-held, read-data}
 use Rattle.feeds.specs.System as system
 use Rattle.feeds.specs.System.{Called, call, settled, serveIf}
 use Rattle.feeds.specs.Service.{Lent, recordFor, leftBy}
 use Rattle.feeds.specs.CallLaws.{read-resets, call-refused, call-read}
 use Rattle.rules.specs.declared.Hub.{Hub}
 use Rattle.nodes.specs.Table.{tableSize}
-use Rattle.frame.specs.Writing.{minRoom}
+use Rattle.frame.specs.Writer.{minRoom}
 use Rattle.rules.specs.Hub.{lineCount, wrongTable, wrongLine, shortRoom, refuseIf, closedLine, feedRefusal, hub}
-use Rattle.calls.specs.declared.Refusal.{Refusal}
-use Rattle.calls.specs.declared.Refusal.the-variants as call-cause
-use Rattle.calls.specs.declared.FeedAnswer.the-variants as feed
-use Rattle.calls.specs.Answers.{number, Bounded}
-use Rattle.calls.specs.declared.CallAnswer.the-variants as call-answer
-use Rattle.calls.specs.declared.ClosedLent.{ClosedLent}
-use Rattle.calls.specs.Lent.{ClosesLent}
+use Rattle.rules.specs.declared.CallRefusal.{CallRefusal}
+use Rattle.rules.specs.declared.CallRefusal.the-variants as call-cause
+use Rattle.rules.specs.declared.FeedAnswer.the-variants as feed
+use Rattle.rules.specs.Answers.{number, Bounded}
+use Rattle.rules.specs.declared.CallAnswer.the-variants as call-answer
+use Rattle.rules.specs.declared.ClosedLent.{ClosedLent}
+use Rattle.rules.specs.Lent.{ClosesLent}
 use Rattle.demands.specs.Steps as steps
 use Rattle.demands.specs.Steps.{Memory, Step, Return, lineRecord}
 use Rattle.demands.specs.StepsLaws.{made-any}
@@ -89,10 +89,10 @@ held-outcome s w x (some (refused n)) e =
     }
 
 -- a feed's refusal is that of a cause
-refusal-cause : (t : List ℕ) (l room n : ℕ) → feedRefusal t l room ≡ some n → (c : Refusal) × (number c ≡ n)
+refusal-cause : (t : List ℕ) (l room n : ℕ) → feedRefusal t l room ≡ some n → (c : CallRefusal) × (number c ≡ n)
 refusal-cause t l room n = go (not (eqb (length t) tableSize)) (not (ltb l lineCount)) (ltb room minRoom)
   where
-    go : (a b d : Bool) → refuseIf a wrongTable (refuseIf b wrongLine (refuseIf d shortRoom none)) ≡ some n → (c : Refusal) × (number c ≡ n)
+    go : (a b d : Bool) → refuseIf a wrongTable (refuseIf b wrongLine (refuseIf d shortRoom none)) ≡ some n → (c : CallRefusal) × (number c ≡ n)
     go true b d e = (call-cause.WrongTable, cc)
     go false true d e = (call-cause.WrongLine, cc)
     go false false true e = (call-cause.ShortRoom, cc)

@@ -7,7 +7,7 @@ use native.Mathlib.Omega.{arith}
 use lib.ListN.{length, getD, replicate}
 use lib.Dec.{ltb}
 use Rattle.frame.specs.Frame.{Outcome, frame, refused}
-use Rattle.frame.specs.Writing.{minRoom}
+use Rattle.frame.specs.Writer.{minRoom}
 use Rattle.nodes.specs.Table as table
 use Rattle.sessions.specs.declared.Slot.{Slot}
 use Rattle.sessions.specs.Sessions as sessions
@@ -16,7 +16,7 @@ use Rattle.directory.specs.Lookup as directory
 use Rattle.feeds.specs.System as feeds
 use Rattle.feeds.specs.SystemLaws.{Fed, barred, done, fed}
 use Rattle.rules.specs.declared.Hub.{Hub}
-use Rattle.octets.specs.Octets.{same}
+use Rattle.memory.specs.Octets.{same}
 use Rattle.rules.specs.Hub.{Reply, Password, enter, change, getNode, removeNodes, virginState, modeSend, request, mayAsk, serve, startRefusal, startBy, closeRefusal, closeBy, finishBy, hub}
 use Rattle.rules.specs.Cases.{either, each-verdict, each-request}
 use Rattle.demands.specs.Invariants.{OneAtMost}

@@ -8,8 +8,8 @@ use mathlib.Core.Option.{Option, none, some}
 use lib.ListN.{length, getD, set}
 use lib.Dec.{ltb, eqb}
 use Rattle.line.specs.declared.Reading.{Reading}
-use Rattle.frame.specs.Reading.{taken}
-use Rattle.frame.specs.Writing.{minRoom}
+use Rattle.frame.specs.Reader.{taken}
+use Rattle.frame.specs.Writer.{minRoom}
 use Rattle.sessions.specs.Search.{any}
 use Rattle.sessions.specs.Sessions.{isNumbered}
 use Rattle.feeds.specs.System as system

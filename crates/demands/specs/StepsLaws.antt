@@ -7,8 +7,8 @@ use mathlib.Core.Option.{Option, none, some, Option·none-ne-some}
 use lib.ListN.{length, set, List·getD-map}
 use lib.Dec.{eqb, ltb}
 use Rattle.line.specs.declared.Reading.{Reading}
-use Rattle.frame.specs.Reading.{State, emptiedReading, read, taken}
-use Rattle.frame.specs.Writing.{minRoom}
+use Rattle.frame.specs.Reader.{State, emptiedReading, read, taken}
+use Rattle.frame.specs.Writer.{minRoom}
 use Rattle.sessions.specs.Search.{any}
 use Rattle.sessions.specs.Sessions as sessions
 use Rattle.feeds.specs.System as system

@@ -4,7 +4,7 @@ use mathlib.Core.Path.{_≡_, ap, _∙_}
 use mathlib.Core.List.{List, [], _∷_, _++_, map}
 use lib.ListN.{length, length-map}
 use Rattle.frame.specs.Frame.{Refusal, refused}
-use Rattle.frame.specs.Reading.{END, escape, outcomes, emptied, step}
+use Rattle.frame.specs.Reader.{END, escape, outcomes, emptied, step}
 use Rattle.frame.specs.Damage.{Damage}
 use Rattle.feeds.specs.System.{Entry, System, World, errorReply, OnlyErrorReply}
 use Rattle.feeds.specs.Marks.{answersOf, usedOn, toldOn, marks, Isolated}

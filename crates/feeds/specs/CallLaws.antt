@@ -7,8 +7,8 @@ use native.Mathlib.Omega.{arith}
 use lib.ListN.{length, take}
 use Rattle.frame.specs.Frame as packet
 use Rattle.frame.specs.Frame.{Refusal, Outcome}
-use Rattle.frame.specs.Reading.{also, onward, outcomes, scan, State, emptied, step, read}
-use Rattle.frame.specs.ReadingLaws.{step-resets, used-some, used-within}
+use Rattle.frame.specs.Reader.{also, onward, outcomes, scan, State, emptied, step, read}
+use Rattle.frame.specs.ReaderLaws.{step-resets, used-some, used-within}
 use Rattle.feeds.specs.System.{System, refused, told, serveIf, settled, decided, call, errorReply, OnlyErrorReply}
 use Rattle.feeds.specs.Marks.{countOf}
 

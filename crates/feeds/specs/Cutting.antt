@@ -5,7 +5,7 @@ use mathlib.Core.List.{List, [], _∷_, append-nil, flatten}
 use mathlib.Core.Option.{none}
 use lib.ListN.{length}
 use Rattle.frame.specs.Frame.{Outcome}
-use Rattle.frame.specs.Reading.{State}
+use Rattle.frame.specs.Reader.{State}
 use Rattle.feeds.specs.System.{Entry, System, World, results, endState}
 use Rattle.feeds.specs.Marks.{answersOf, usedOn, toldOn}
 use Rattle.feeds.specs.Serving.{repliesTold, ServedAll, AllOn, servedBy, inPieces}

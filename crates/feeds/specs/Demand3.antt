@@ -10,8 +10,8 @@ use lib.ListN.{length, getD, length-map, List·getD-map}
 use Rattle.line.specs.declared.Reading.{Reading}
 use Rattle.frame.specs.Line.{closed, pieceOutcomes, written}
 use Rattle.frame.specs.Frame.{Refusal, Outcome, refused}
-use Rattle.frame.specs.Reading.{END, escape, outcomes, State, taken, emptied, emptiedReading, judged, step}
-use Rattle.frame.specs.ReadingLaws.{by-pieces-taken}
+use Rattle.frame.specs.Reader.{END, escape, outcomes, State, taken, emptied, emptiedReading, judged, step}
+use Rattle.frame.specs.ReaderLaws.{by-pieces-taken}
 use Rattle.frame.specs.Damage.{Damage}
 use Rattle.feeds.specs.System.{Entry, System, Result, World, results, endState, errorReply, OnlyErrorReply}
 use Rattle.feeds.specs.Marks.{replies, answersOf, usedOn, toldOn, marks, marked, unmarked, nonempty}

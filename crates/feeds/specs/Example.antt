@@ -10,7 +10,7 @@ use Rattle.frame.specs.Line as line
 use Rattle.frame.specs.Xor.{_⊕_, xorAll}
 use Rattle.frame.specs.Frame as packet
 use Rattle.frame.specs.Frame.{Outcome, frame, judge}
-use Rattle.frame.specs.Reading.{END, escape, onward, scan, State, plain, emptied, inner, verdict, step}
+use Rattle.frame.specs.Reader.{END, escape, onward, scan, State, plain, emptied, inner, verdict, step}
 use Rattle.frame.specs.Damage.{Damage, lost, further}
 use Rattle.feeds.specs.System.{Entry, Served, System, refused, told, Result, World, settled, serveIf, decided, call, stateFor, returned, feed, results, endState, errorReply}
 use Rattle.feeds.specs.Marks.{answers, replies, answersOf, countOf, outcomeOf, counted, usedOn, toldOn, marksFrom, marks, marked, unmarked, nonempty}

@@ -10,7 +10,7 @@ use lib.Seq.{getD-set-other, set-set, set-comm, set-getD}
 use lib.Dec.{eqb}
 use borrow.Author.Tests.{eqb-true, eqb-false, eq-eqb, ne-eqb}
 use Rattle.frame.specs.Frame.{Outcome}
-use Rattle.frame.specs.Reading.{also, outcomes, State, emptied, step}
+use Rattle.frame.specs.Reader.{also, outcomes, State, emptied, step}
 use Rattle.feeds.specs.System.{Entry, Served, System, Result, Called, World, serveIf, settled, call, stateFor, returned, feed, results, endState}
 use Rattle.feeds.specs.Marks.{replies, answersOf, outcomeOf, counted, outcomeOn, usedOn, marksFrom, marks, marked, unmarked, nonempty, Isolated}
 use Rattle.feeds.specs.SystemLaws.{Fed, barred, done, fed, fed-length, done-resets, own, own-set, fed-told, told-before}

@@ -7,7 +7,7 @@ use mathlib.Core.Option.{Option, none, some}
 use lib.ListN.{take}
 use lib.Dec.{eqb}
 use Rattle.frame.specs.Frame.{Outcome}
-use Rattle.frame.specs.Reading.{also}
+use Rattle.frame.specs.Reader.{also}
 use Rattle.feeds.specs.System.{Entry, System, Answer, refused, told, Result, World, results, endState}
 
 -- The answers, and the replies, of some results.

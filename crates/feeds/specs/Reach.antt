@@ -9,7 +9,7 @@ use lib.ListN.{length, take, drop, take-append-drop, length-drop}
 use lib.Dec.{eqb}
 use borrow.Author.Tests.{eq-eqb, ne-eqb}
 use Rattle.frame.specs.Frame.{Outcome}
-use Rattle.frame.specs.Reading.{State}
+use Rattle.frame.specs.Reader.{State}
 use Rattle.feeds.specs.System.{Entry, System, Result, World, serveIf, settled, stateFor, returned, feed, results, endState}
 use Rattle.feeds.specs.Marks.{answersOf, countOf, usedOn}
 use Rattle.feeds.specs.Serving.{Every, AllOn, entryFor, untilUsed, inPieces}

@@ -8,8 +8,8 @@ use lib.ListN.{length, drop, replicate, length-replicate}
 use Rattle.line.specs.declared.Reading.{Reading}
 use Rattle.frame.specs.Frame.{Outcome}
 use Rattle.frame.specs.Line.{taken-held, recordOf, taken-record}
-use Rattle.frame.specs.ReadingLaws.{read-held}
-use Rattle.frame.specs.Reading.{State, emptied, emptiedReading, taken, read}
+use Rattle.frame.specs.ReaderLaws.{read-held}
+use Rattle.frame.specs.Reader.{State, emptied, emptiedReading, taken, read}
 use Rattle.feeds.specs.System.{Entry, System, World, Called, settled, call}
 use Rattle.feeds.specs.Service.{Lent, Got, Memory, entryOf, worldOf, Promise, recordFor, leftBy, Run, stop, next, Feeds, entriesIn, usedIn}
 use Rattle.feeds.specs.Marks.{answersOf, usedOn, unmarked}

@@ -4,7 +4,7 @@ use mathlib.Core.Path.{_≡_}
 use mathlib.Core.List.{List, [], _∷_, _++_}
 use lib.ListN.{replicate}
 use Rattle.frame.specs.Frame.{Outcome, frame, judge}
-use Rattle.frame.specs.Reading.{END, escape}
+use Rattle.frame.specs.Reader.{END, escape}
 
 -- A well-formed frame: its bytes, which the checks accept with this command and these data, and how many ENDs are sent before it;
 -- none where it shares its neighbour's.

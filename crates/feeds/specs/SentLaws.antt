@@ -5,8 +5,8 @@ use mathlib.Core.List.{List, [], _∷_, _++_, map, append-assoc, append-nil}
 use lib.ListN.{replicate}
 use Rattle.frame.specs.Frame.{Refusal, refused, body, framed, wire}
 use Rattle.frame.specs.Xor.{_⊕_, xorAll}
-use Rattle.frame.specs.Reading.{END, escape, outcomes, final, State, emptied, step}
-use Rattle.frame.specs.ReadingLaws.{outcomes-append, final-append, final-closed, outcomes-end}
+use Rattle.frame.specs.Reader.{END, escape, outcomes, final, State, emptied, step}
+use Rattle.frame.specs.ReaderLaws.{outcomes-append, final-append, final-closed, outcomes-end}
 use Rattle.frame.specs.Damage.{Damage}
 use Rattle.frame.specs.DamageLaws.{damaged-refused, whole-read}
 use Rattle.feeds.specs.Sent.{Sent, frameOf, enclosed, sent}

@@ -6,7 +6,7 @@ use mathlib.Core.List.{List, [], _∷_, _++_, map}
 use lib.ListN.{length, take, drop, getD, set}
 use Rattle.line.specs.declared.Reading.{Reading}
 use Rattle.frame.specs.Frame.{Outcome}
-use Rattle.frame.specs.Reading.{taken}
+use Rattle.frame.specs.Reader.{taken}
 use Rattle.feeds.specs.System.{Entry, System, Answer, refused, told, Result, Called, World, call}
 use Rattle.feeds.specs.Marks.{usedOn, toldOn, marks}
 

@@ -12,7 +12,7 @@ use Rattle.frame.specs.Line as line
 use Rattle.frame.specs.Xor.{_⊕_, xorAll}
 use Rattle.frame.specs.Frame as packet
 use Rattle.frame.specs.Frame.{frame, judge}
-use Rattle.frame.specs.Reading.{END, escape, onward, scan, emptiedReading, inner, verdict, step}
+use Rattle.frame.specs.Reader.{END, escape, onward, scan, emptiedReading, inner, verdict, step}
 use Rattle.feeds.specs.System.{Answer, refused, told, settled, serveIf, decided, call, errorReply}
 use Rattle.feeds.specs.Marks.{countOf, outcomeOf, counted, usedOn, marksFrom}
 use Rattle.feeds.specs.Sent.{sent}

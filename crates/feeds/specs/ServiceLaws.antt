@@ -7,7 +7,7 @@ use mathlib.Core.Option.{Option, none, some}
 use lib.ListN.{length, take, drop, set, List·getD-map}
 use lib.Seq.{take-at}
 use Rattle.line.specs.declared.Reading.{Reading}
-use Rattle.frame.specs.Reading.{State, read, taken}
+use Rattle.frame.specs.Reader.{State, read, taken}
 use Rattle.feeds.specs.System.{System, Answer, refused, Result, Called, World, settled, decided, call, stateFor, returned, feed, results, endState}
 use Rattle.feeds.specs.Marks.{answers, answersOf, unmarked}
 use Rattle.feeds.specs.CallLaws.{call-refused, answer-refused}

@@ -7,7 +7,7 @@ use mathlib.Core.Option.{Option, none, some}
 use lib.ListN.{length, drop}
 use lib.Dec.{eqb}
 use Rattle.frame.specs.Frame.{Outcome}
-use Rattle.frame.specs.Reading.{also, State}
+use Rattle.frame.specs.Reader.{also, State}
 use Rattle.feeds.specs.System.{Entry, System, Answer, Result, World, feed, results, endState}
 use Rattle.feeds.specs.Marks.{countOf, outcomeOf}
 

@@ -8,7 +8,7 @@ use lib.ListN.{length, set}
 use lib.Seq.{set-getD, set-set}
 use borrow.Author.Tests.{eq-eqb}
 use Rattle.frame.specs.Frame.{Outcome}
-use Rattle.frame.specs.Reading.{also, outcomes, final, State, emptied, step}
+use Rattle.frame.specs.Reader.{also, outcomes, final, State, emptied, step}
 use Rattle.feeds.specs.System.{Entry, System, Answer, Result, World, serveIf, settled, returned, feed, results, endState}
 use Rattle.feeds.specs.Marks.{answersOf, outcomeOf, usedOn, toldOn}
 use Rattle.feeds.specs.Sent.{Sent, frameOf, sent}

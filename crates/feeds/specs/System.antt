@@ -6,7 +6,7 @@ use mathlib.Core.Option.{Option, none, some}
 use lib.ListN.{length, getD, set}
 use Rattle.frame.specs.Frame as packet
 use Rattle.frame.specs.Frame.{Refusal, Outcome}
-use Rattle.frame.specs.Reading.{END, Scan, State, read}
+use Rattle.frame.specs.Reader.{END, Scan, State, read}
 
 -- An entry of a list of feeds: line, bytes and the room's length; a line that has no record of its own is lent one in the state `spare`.
 pub record Entry : Type 0 where

@@ -10,8 +10,8 @@ use lib.Seq.{drop-cons, getD-set-same, getD-set-other, set-getD}
 use lib.Dec.{eqb}
 use borrow.Author.Tests.{eqb-true, eqb-false}
 use Rattle.frame.specs.Frame.{Outcome}
-use Rattle.frame.specs.Reading.{also, Scan, outcomes, final, State, emptied, step, read}
-use Rattle.frame.specs.ReadingLaws.{also-append, outcomes-append, final-append, Tells, scan-tells}
+use Rattle.frame.specs.Reader.{also, Scan, outcomes, final, State, emptied, step, read}
+use Rattle.frame.specs.ReaderLaws.{also-append, outcomes-append, final-append, Tells, scan-tells}
 use Rattle.feeds.specs.System.{Entry, System, refused, Result, World, serveIf, settled, decided, call, stateFor, returned, feed, results, endState}
 use Rattle.feeds.specs.CallLaws.{read-resets}
 use Rattle.feeds.specs.Marks.{answersOf, countOf, outcomeOf, outcomeOn, usedOn, toldOn}

@@ -9,11 +9,11 @@ use Rattle.line.specs.declared.Fault.{Fault}
 use Rattle.line.specs.declared.Fault.the-variants.{WrongEscape, TooLong}
 use Rattle.line.specs.declared.Reading.{Reading}
 use Rattle.line.specs.Reader as line
-use Rattle.frame.specs.declared.Answer.{Answer}
-use Rattle.frame.specs.declared.Told.{Told}
+use Rattle.frame.specs.declared.FrameAnswer.{FrameAnswer}
+use Rattle.frame.specs.declared.FrameAt.{FrameAt}
 use Rattle.frame.specs.Frame.{Outcome, frame, refused, refusal, around, judge}
 use Rattle.frame.specs.JudgeLaws.{judge-accepted, judge-frame}
-use Rattle.frame.specs.Reading.{takenAs, taken, read}
+use Rattle.frame.specs.Reader.{takenAs, taken, read}
 use Rattle.frame.specs.Answers.{told, seen, Answers, answerOf}
 use Rattle.frame.specs.Code.{causeOf}
 use Rattle.frame.specs.Lent.{frameTold, ReadsFrame}
@@ -25,12 +25,12 @@ cause-number WrongEscape = refl
 cause-number TooLong = refl
 
 -- bytes that lie apart from an answer tell its frame and its state
-pub apart-seen : (bs : List ℕ) (t : Told)
+pub apart-seen : (bs : List ℕ) (t : FrameAt)
     → seen (answerOf bs t) ≡ record { used = t .used; outcome = told (t .outcome) bs; after = takenAs bs (t .place .count) (t .place .mode) }
 apart-seen bs t = refl
 
 -- a call by value whose record is put back is a call on the lent record
-pub frame-lent : (s : Reading) (w : List ℕ) (a : Answer) → Answers (read (taken s) w) a → ReadsFrame s w (frameTold a) (a .reading)
+pub frame-lent : (s : Reading) (w : List ℕ) (a : FrameAnswer) → Answers (read (taken s) w) a → ReadsFrame s w (frameTold a) (a .reading)
 frame-lent s w a x = x
 
 -- the data shown of a packet are its bytes from where they begin on

@@ -8,12 +8,12 @@ use Rattle.line.specs.Reader.{limit}
 use Rattle.line.specs.Answers.{Clear}
 use Rattle.frame.specs.declared.Judged.{Judged}
 use Rattle.frame.specs.declared.Judged.the-variants as judged
-use Rattle.frame.specs.declared.Outcome.{Outcome as Given}
-use Rattle.frame.specs.declared.Outcome.the-variants as given
-use Rattle.frame.specs.declared.Answer.{Answer}
-use Rattle.frame.specs.declared.Told.{Told}
+use Rattle.frame.specs.declared.FrameOutcome.{FrameOutcome as Given}
+use Rattle.frame.specs.declared.FrameOutcome.the-variants as given
+use Rattle.frame.specs.declared.FrameAnswer.{FrameAnswer}
+use Rattle.frame.specs.declared.FrameAt.{FrameAt}
 use Rattle.frame.specs.Frame.{Outcome, frame, refused, refusal, maxData, head, around}
-use Rattle.frame.specs.Reading.{Scan, State, taken}
+use Rattle.frame.specs.Reader.{Scan, State, taken}
 
 -- what a judgement of the bytes h tells: a frame's data are a part of h
 abbrev pub judgedAs : List ℕ → Judged → Outcome
@@ -35,7 +35,7 @@ told given.Nothing bs = none
 told (given.Frame c n) bs = some (frame c (take n (drop head bs)))
 told (given.Refused r) bs = some (refused (refusal r))
 
-abbrev pub seen : Answer → Scan State Outcome
+abbrev pub seen : FrameAnswer → Scan State Outcome
 seen r = record { used = r .used; outcome = told (r .outcome) (r .reading .bytes); after = taken (r .reading) }
 
 -- a frame's data lie within the array
@@ -46,7 +46,7 @@ Within (given.Refused r) = Unit {0}
 
 -- The promise of a call: r tells what the definition x gives, and each count in it lies within the array.
 -- Left to the program: the array's places beyond the bytes held and, where a frame is told, those outside its data; it stays 255 long.
-pub record Answers (x : Scan State Outcome) (r : Answer) : Type 0 where
+pub record Answers (x : Scan State Outcome) (r : FrameAnswer) : Type 0 where
   pub told : seen r ≡ x
   pub data-within : Within (r .outcome)
   pub count-within : r .reading .count ≤ limit
@@ -54,5 +54,5 @@ pub record Answers (x : Scan State Outcome) (r : Answer) : Type 0 where
   pub full : length (r .reading .bytes) ≡ limit
 
 -- the answer with the bytes that it lies apart from
-abbrev pub answerOf : List ℕ → Told → Answer
+abbrev pub answerOf : List ℕ → FrameAt → FrameAnswer
 answerOf bs t = record { used = t .used; outcome = t .outcome; reading = record { bytes = bs; count = t .place .count; mode = t .place .mode } }

@@ -5,32 +5,32 @@ use mathlib.Core.List.{List}
 use lib.ListN.{length}
 use Rattle.line.specs.declared.Fault.{Fault}
 use Rattle.line.specs.declared.Fault.the-variants as fault
-use Rattle.line.specs.declared.Outcome.{Outcome as Got}
+use Rattle.line.specs.declared.PacketOutcome.{PacketOutcome as Got}
 use Rattle.line.specs.Reader.{limit}
 use Rattle.line.specs.Answers.{told as packetOf}
-use Rattle.frame.specs.declared.Refusal.{Refusal}
-use Rattle.frame.specs.declared.Refusal.the-variants as cause
+use Rattle.frame.specs.declared.PacketRefusal.{PacketRefusal}
+use Rattle.frame.specs.declared.PacketRefusal.the-variants as cause
 use Rattle.frame.specs.declared.Judged.{Judged}
 use Rattle.frame.specs.declared.Judged.the-variants as judged
-use Rattle.frame.specs.declared.Outcome.{Outcome}
-use Rattle.frame.specs.declared.Outcome.the-variants as given
+use Rattle.frame.specs.declared.FrameOutcome.{FrameOutcome}
+use Rattle.frame.specs.declared.FrameOutcome.the-variants as given
 use Rattle.frame.specs.Xor.{_⊕_, xorAll}
 use Rattle.frame.specs.Frame.{headOf}
-use Rattle.frame.specs.Reading.{verdict}
+use Rattle.frame.specs.Reader.{verdict}
 use Rattle.frame.specs.Answers.{told, Within}
 
 -- `cause_of`: a fault of the line reader, as a cause of refusal
-abbrev pub causeOf : Fault → Refusal
+abbrev pub causeOf : Fault → PacketRefusal
 causeOf fault.WrongEscape = cause.WrongEscape
 causeOf fault.TooLong = cause.TooLong
 
 -- `outcome_of`: a judgement, as an outcome
-abbrev pub outcomeOf : Judged → Outcome
+abbrev pub outcomeOf : Judged → FrameOutcome
 outcomeOf (judged.Frame c s n) = given.Frame c n
 outcomeOf (judged.Refused r) = given.Refused r
 
 -- `judge_in`: the outcome is the line reader's, judged
-pub record Judging (bs : List ℕ) (g : Got) (r : Outcome) : Type 0 where
+pub record Judging (bs : List ℕ) (g : Got) (r : FrameOutcome) : Type 0 where
   pub told : told r bs ≡ verdict (packetOf g bs)
   pub within : Within r
   pub full : length bs ≡ limit

@@ -9,8 +9,8 @@ use Rattle.line.specs.Reader as line
 use Rattle.line.specs.Pieces.{NoEnd}
 use Rattle.frame.specs.Frame.{Refusal, Outcome, frame, refused, judge}
 use Rattle.frame.specs.JudgeLaws.{Accepted, judge-accepted}
-use Rattle.frame.specs.Reading.{END, escape, also, outcomes, State, plain, escaped, skipping, emptied, inside, verdict, step}
-use Rattle.frame.specs.ReadingLaws.{outcomes-closed, closed-number, accepted-closes}
+use Rattle.frame.specs.Reader.{END, escape, also, outcomes, State, plain, escaped, skipping, emptied, inside, verdict, step}
+use Rattle.frame.specs.ReaderLaws.{outcomes-closed, closed-number, accepted-closes}
 use Rattle.frame.specs.Damage.{Damage, replaced, inserted, lost, further}
 use Rattle.frame.specs.EscapeLaws.{escape-sent, escape-no-end, decoded-sent}
 use Rattle.frame.specs.ChangeLaws.{Change, less, damage-change, change-refused}

@@ -8,8 +8,8 @@ use Rattle.line.specs.Wire.{END}
 use Rattle.line.specs.declared.Fault.the-variants as fault
 use Rattle.line.specs.Reader as line
 use Rattle.line.specs.Reader.{limit}
-use Rattle.frame.specs.declared.Refusal.{Refusal as Cause}
-use Rattle.frame.specs.declared.Refusal.the-variants.{WrongEscape, TooLong, TooShort, WrongProtocol, WrongLength, WrongCheck}
+use Rattle.frame.specs.declared.PacketRefusal.{PacketRefusal as Cause}
+use Rattle.frame.specs.declared.PacketRefusal.the-variants.{WrongEscape, TooLong, TooShort, WrongProtocol, WrongLength, WrongCheck}
 use Rattle.frame.specs.Xor.{xorAll}
 pub use Rattle.line.specs.Reader.{Refusal}
 unfoldable pub use Rattle.line.specs.Wire.{escape}

@@ -8,7 +8,7 @@ use Rattle.frame.specs.declared.WrittenAt.the-variants as at
 use Rattle.frame.specs.Xor.{_⊕_, xorAll}
 use Rattle.frame.specs.Frame.{escape, frame, refused, body, framed, wire, tooShort, wrongProtocol, wrongLength, wrongCheck, judge}
 use Rattle.frame.specs.View.{shownCommand}
-use Rattle.frame.specs.Writing.{write, writeAt}
+use Rattle.frame.specs.Writer.{write, writeAt}
 
 -- two of the packets
 p4 : List ℕ

@@ -2,15 +2,15 @@
 use Prim.Native.Nat.{ℕ}
 use mathlib.Core.List.{List}
 use Rattle.line.specs.declared.Reading.{Reading}
-use Rattle.frame.specs.declared.Answer.{Answer}
+use Rattle.frame.specs.declared.FrameAnswer.{FrameAnswer}
 use Rattle.frame.specs.declared.FrameTold.{FrameTold}
-use Rattle.frame.specs.Reading.{taken, read}
+use Rattle.frame.specs.Reader.{taken, read}
 use Rattle.frame.specs.Answers.{Answers}
 
-abbrev pub frameTold : Answer → FrameTold
+abbrev pub frameTold : FrameAnswer → FrameTold
 frameTold a = record { used = a .used; outcome = a .outcome }
 
-abbrev pub frameAnswer : FrameTold → Reading → Answer
+abbrev pub frameAnswer : FrameTold → Reading → FrameAnswer
 frameAnswer t e = record { used = t .used; outcome = t .outcome; reading = e }
 
 -- the record s is lent, and lies as e afterwards

@@ -1,9 +1,9 @@
 pub mod Xor
 pub mod Frame
-pub mod Reading
+pub mod Reader
 pub mod Line
 pub mod Answers
-pub mod Writing
+pub mod Writer
 pub mod Code
 pub mod Lent
 pub mod View
@@ -12,9 +12,11 @@ pub mod FrameVectors
 pub mod XorLaws
 pub mod JudgeLaws
 pub mod WireLaws
-pub mod ReadingLaws
+pub mod ReaderLaws
 pub mod EscapeLaws
 pub mod RoundTrip
 pub mod ChangeLaws
 pub mod DamageLaws
 pub mod AnswerLaws
+pub mod Shown
+pub mod ShownCode

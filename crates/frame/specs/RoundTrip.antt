@@ -12,8 +12,8 @@ use Rattle.line.specs.Reader as line
 use Rattle.line.specs.Pieces.{NoEnd, Bytes}
 use Rattle.frame.specs.Frame.{frame, maxData, framed, wire}
 use Rattle.frame.specs.JudgeLaws.{framed-accepted, framed-again}
-use Rattle.frame.specs.Reading.{END, escape, onward, outcomes, scan, State, emptied, inside, verdict, step, read}
-use Rattle.frame.specs.ReadingLaws.{closed-one, outcomes-end, read-closed, accepted-closes, closed-frame, read-data}
+use Rattle.frame.specs.Reader.{END, escape, onward, outcomes, scan, State, emptied, inside, verdict, step, read}
+use Rattle.frame.specs.ReaderLaws.{closed-one, outcomes-end, read-closed, accepted-closes, closed-frame, read-data}
 use Rattle.frame.specs.EscapeLaws.{escape-no-end, sent-escape, sent-bytes, decoded-sent}
 use Rattle.frame.specs.DamageLaws.{whole-read}
 

@@ -2,8 +2,25 @@
 // The rules are specs/Frame.antt, specs/Reading.antt, specs/Writing.antt and specs/View.antt.
 // The code is in `checks`, `reader`, `lent`, `view` and `writer`.
 // It stands on what the line layer states.
+mod checks;
+mod lent;
+mod reader;
+mod view;
+mod writer;
+
+pub use checks::judge;
+pub use lent::read_frame;
 use line::Place;
 use line::Reading;
+pub use reader::emptied;
+pub use reader::read;
+pub use reader::read_in;
+pub use view::View;
+pub use view::command;
+pub use view::data;
+pub use view::show;
+pub use writer::write;
+pub use writer::write_at;
 
 // The greatest number of data bytes, and the least room of a call that writes.
 pub const DATA: usize = 250;
@@ -16,7 +33,7 @@ pub const HEAD: usize = 4;
 pub const AROUND: usize = 5;
 
 // Why a packet is refused, in the order of document 01's numbers 1 to 6.
-pub enum Refusal {
+pub enum PacketRefusal {
     WrongEscape,
     TooLong,
     TooShort,
@@ -32,33 +49,33 @@ pub enum Judged {
         start: usize,
         len: usize,
     },
-    Refused(Refusal),
+    Refused(PacketRefusal),
 }
 
 // What wire bytes came to. A frame's data are `len` bytes of the reading's `bytes` from `HEAD` on.
-pub enum Outcome {
+pub enum FrameOutcome {
     Nothing,
     Frame { command: u16, len: usize },
-    Refused(Refusal),
+    Refused(PacketRefusal),
 }
 
-pub struct Answer {
+pub struct FrameAnswer {
     pub used: usize,
-    pub outcome: Outcome,
+    pub outcome: FrameOutcome,
     pub reading: Reading,
 }
 
 // An answer apart from its bytes.
-pub struct Told {
+pub struct FrameAt {
     pub used: usize,
-    pub outcome: Outcome,
+    pub outcome: FrameOutcome,
     pub place: Place,
 }
 
 // An answer apart from its reading, which lies where it was lent.
 pub struct FrameTold {
     pub used: usize,
-    pub outcome: Outcome,
+    pub outcome: FrameOutcome,
 }
 
 // What writing into room came to: the wire form's length, or the call's refusal.

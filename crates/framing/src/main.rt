@@ -56,16 +56,16 @@ fn put_written(out: &mut [u8], at: usize, room: &[u8], n: usize) -> usize {
     if room.len() < n {
         return at;
     }
-    let wire = hexes::bytes_line(out, at, &WRITES, n as u64, &GAP, &room[0..n], &LINE_END);
+    let wire = text::bytes_line(out, at, &WRITES, n as u64, &GAP, &room[0..n], &LINE_END);
     let told = put_spilled(out, wire, room, n);
-    let answer = reader::read(reader::emptied(), &room[0..n]);
+    let answer = frame::read(frame::emptied(), &room[0..n]);
     let outcome = answer.outcome;
-    listed::outcome_line(out, told, outcome)
+    lister::outcome_line(out, told, outcome)
 }
 
 fn put_spilled(out: &mut [u8], at: usize, room: &[u8], n: usize) -> usize {
     if report::spilled(room, n, FILLER) {
-        return words::append(out, at, &SPILLED);
+        return text::append(out, at, &SPILLED);
     }
     at
 }
@@ -79,7 +79,7 @@ fn put_answer(out: &mut [u8], at: usize, answer: Written, room: &[u8]) -> usize 
 }
 
 fn put_refused(out: &mut [u8], at: usize, number: u8, room: &[u8]) -> usize {
-    let gap = words::append(out, at, &GAP);
+    let gap = text::append(out, at, &GAP);
     report::refused_line(out, gap, number, report::spilled(room, 0, FILLER))
 }
 
@@ -90,7 +90,7 @@ fn show_frame(name: &[u8], room: &mut [u8], command: u16, b: u8, n: usize) {
         return;
     }
     let mut page = [0u8; PAGE];
-    let answer = writer::write(room, command, &payload[0..n]);
+    let answer = frame::write(room, command, &payload[0..n]);
     io::write_all(STDOUT_FILENO, name);
     let end = put_answer(&mut page, 0, answer, room);
     print(&page, end);
@@ -108,9 +108,9 @@ fn show_short_room(name: &[u8], n: usize) {
 
 fn put_place(out: &mut [u8], at: usize, answer: WrittenAt) -> usize {
     match answer {
-        WrittenAt::UpTo(k) => numbered::append_numbered(out, at, &UP_TO, k as u64, &NONE),
-        WrittenAt::NoFit => words::append(out, at, &NO_FIT),
-        WrittenAt::LongData => words::append(out, at, &LONG_DATA),
+        WrittenAt::UpTo(k) => text::append_numbered(out, at, &UP_TO, k as u64, &NONE),
+        WrittenAt::NoFit => text::append(out, at, &NO_FIT),
+        WrittenAt::LongData => text::append(out, at, &LONG_DATA),
     }
 }
 
@@ -122,11 +122,11 @@ fn show_at(start: usize, n: usize) {
         return;
     }
     let mut page = [0u8; PAGE];
-    let answer = writer::write_at(&mut room, start, 0x0102, &payload[0..n]);
-    let from = numbered::append_numbered(&mut page, 0, &FROM, start as u64, &DATA);
-    let data = numbered::append_numbered(&mut page, from, &NONE, n as u64, &COLON);
+    let answer = frame::write_at(&mut room, start, 0x0102, &payload[0..n]);
+    let from = text::append_numbered(&mut page, 0, &FROM, start as u64, &DATA);
+    let data = text::append_numbered(&mut page, from, &NONE, n as u64, &COLON);
     let told = put_place(&mut page, data, answer);
-    let end = hexes::bytes_line(&mut page, told, &ROOM, 13, &GAP, &room, &LINE_END);
+    let end = text::bytes_line(&mut page, told, &ROOM, 13, &GAP, &room, &LINE_END);
     print(&page, end);
 }
 
@@ -159,13 +159,13 @@ fn show_limits() {
 
 // What the view of a packet shows.
 fn seen(packet: &[u8]) -> Copied {
-    let v = view::show(packet);
-    shown(view::command(v), view::data(v))
+    let v = frame::show(packet);
+    shown(frame::command(v), frame::data(v))
 }
 
 fn shown(command: u16, payload: &[u8]) -> Copied {
     let mut data = [0u8; frame::DATA];
-    store::copy(&mut data, 0, payload);
+    memory::copy(&mut data, 0, payload);
     let len = payload.len();
     Copied { command, data, len }
 }
@@ -179,8 +179,8 @@ fn show_view(name: &[u8], packet: &[u8]) {
     if frame::DATA < len {
         return;
     }
-    let title = words::append(&mut page, 0, name);
-    let shows = hexes::bytes_line(
+    let title = text::append(&mut page, 0, name);
+    let shows = text::bytes_line(
         &mut page,
         title,
         &PACKET,
@@ -189,7 +189,7 @@ fn show_view(name: &[u8], packet: &[u8]) {
         packet,
         &SHOWS,
     );
-    let end = hexes::bytes_line(
+    let end = text::bytes_line(
         &mut page,
         shows,
         &NONE,

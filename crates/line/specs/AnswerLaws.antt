@@ -7,11 +7,11 @@ use lib.Seq.{length-take-le}
 use Rattle.line.specs.declared.Mode.{Mode}
 use Rattle.line.specs.declared.Mode.the-variants.{Plain, Escaped, Skipping}
 use Rattle.line.specs.declared.Reading.{Reading}
-use Rattle.line.specs.declared.Answer.{Answer}
-use Rattle.line.specs.declared.Told.{Told}
+use Rattle.line.specs.declared.PacketAnswer.{PacketAnswer}
+use Rattle.line.specs.declared.PacketAt.{PacketAt}
 use Rattle.line.specs.Reader.{emptied, held, read}
 use Rattle.line.specs.Answers.{at, takenAs, taken, emptiedReading, told, seen, Clear, Answers, answerOf}
-use Rattle.line.specs.Code.{placeOf}
+use Rattle.line.specs.Step.{placeOf}
 use Rattle.line.specs.Lent.{packetTold, ReadsPacket}
 
 -- ---- records
@@ -33,10 +33,10 @@ clear-held bs n (Skipping f) h x = sym x
 -- ---- an answer in parts
 
 -- bytes that lie apart from an answer tell its packet and its state
-pub apart-seen : (bs : List ℕ) (t : Told)
+pub apart-seen : (bs : List ℕ) (t : PacketAt)
     → seen (answerOf bs t) ≡ record { used = t .used; outcome = told (t .outcome) bs; after = takenAs bs (t .place .count) (t .place .mode) }
 apart-seen bs t = refl
 
 -- a call by value whose record is put back is a call on the lent record
-pub packet-lent : (s : Reading) (w : List ℕ) (a : Answer) → Answers (read (taken s) w) a → ReadsPacket s w (packetTold a) (a .reading)
+pub packet-lent : (s : Reading) (w : List ℕ) (a : PacketAnswer) → Answers (read (taken s) w) a → ReadsPacket s w (packetTold a) (a .reading)
 packet-lent s w a x = x

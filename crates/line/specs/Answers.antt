@@ -9,10 +9,10 @@ use lib.Dec.{ltb}
 use Rattle.line.specs.declared.Mode.{Mode}
 use Rattle.line.specs.declared.Mode.the-variants.{Plain, Escaped, Skipping}
 use Rattle.line.specs.declared.Reading.{Reading}
-use Rattle.line.specs.declared.Outcome.{Outcome as Given}
-use Rattle.line.specs.declared.Outcome.the-variants.{Nothing, Packet, Refused}
-use Rattle.line.specs.declared.Answer.{Answer}
-use Rattle.line.specs.declared.Told.{Told}
+use Rattle.line.specs.declared.PacketOutcome.{PacketOutcome as Given}
+use Rattle.line.specs.declared.PacketOutcome.the-variants.{Nothing, Packet, Refused}
+use Rattle.line.specs.declared.PacketAnswer.{PacketAnswer}
+use Rattle.line.specs.declared.PacketAt.{PacketAt}
 use Rattle.line.specs.Scan.{Scan, also}
 use Rattle.line.specs.Reader.{limit, refusal, State, plain, escaped, skipping, emptied, Outcome, packet, refused, read}
 
@@ -39,7 +39,7 @@ told Nothing bs = none
 told (Packet n) bs = some (packet (take n bs))
 told (Refused f) bs = some (refused (refusal f))
 
-abbrev pub seen : Answer → Scan State Outcome
+abbrev pub seen : PacketAnswer → Scan State Outcome
 seen r = record { used = r .used; outcome = told (r .outcome) (r .reading .bytes); after = taken (r .reading) }
 
 -- a packet is no longer than the array
@@ -56,20 +56,20 @@ Clear (Skipping f) n = n ≡ 0
 
 -- The promise of a call: r tells what the definition x gives, and each count in it lies within the array.
 -- Left to the program: the array's places beyond the bytes held and, where a packet is told, beyond the packet's.
-pub record Answers (x : Scan State Outcome) (r : Answer) : Type 0 where
+pub record Answers (x : Scan State Outcome) (r : PacketAnswer) : Type 0 where
   pub told : seen r ≡ x
   pub packet-within : Within (r .outcome)
   pub count-within : r .reading .count ≤ limit
   pub clear : Clear (r .reading .mode) (r .reading .count)
 
 -- the answer with the bytes that it lies apart from
-abbrev pub answerOf : List ℕ → Told → Answer
+abbrev pub answerOf : List ℕ → PacketAt → PacketAnswer
 answerOf bs t = record { used = t .used; outcome = t .outcome; reading = record { bytes = bs; count = t .place .count; mode = t .place .mode } }
 
--- Calls one after another: each is lent a record that is taken as the one before left it, and some bytes. Told of them
+-- Calls one after another: each is lent a record that is taken as the one before left it, and some bytes. PacketAt of them
 -- are the bytes used in all, the outcomes and the last record.
 pub data Calls : Reading → List ℕ → List Outcome → Reading → Type 0 where
   done : {s : Reading} → Calls s [] [] s
-  next : {s t e : Reading} {u : List ℕ} {os : List Outcome} (w : List ℕ) (r : Answer)
+  next : {s t e : Reading} {u : List ℕ} {os : List Outcome} (w : List ℕ) (r : PacketAnswer)
       → Answers (read (taken s) w) r → taken t ≡ taken (r .reading) → Calls t u os e
       → Calls s (take (r .used) w ++ u) (also (told (r .outcome) (r .reading .bytes)) os) e

@@ -3,15 +3,15 @@
 use Prim.Native.Nat.{ℕ}
 use mathlib.Core.List.{List}
 use Rattle.line.specs.declared.Reading.{Reading}
-use Rattle.line.specs.declared.Answer.{Answer}
+use Rattle.line.specs.declared.PacketAnswer.{PacketAnswer}
 use Rattle.line.specs.declared.PacketTold.{PacketTold}
 use Rattle.line.specs.Reader.{read}
 use Rattle.line.specs.Answers.{taken, Answers}
 
-abbrev pub packetTold : Answer → PacketTold
+abbrev pub packetTold : PacketAnswer → PacketTold
 packetTold a = record { used = a .used; outcome = a .outcome }
 
-abbrev pub packetAnswer : PacketTold → Reading → Answer
+abbrev pub packetAnswer : PacketTold → Reading → PacketAnswer
 packetAnswer t e = record { used = t .used; outcome = t .outcome; reading = e }
 
 -- the record s is lent, and lies as e afterwards

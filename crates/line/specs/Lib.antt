@@ -4,7 +4,7 @@ pub mod Scan
 pub mod Reader
 pub mod Pieces
 pub mod Answers
-pub mod Code
+pub mod Step
 pub mod Lent
 pub mod ReaderVectors
 pub mod ScanLaws

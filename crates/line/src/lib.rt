@@ -2,6 +2,16 @@
 // The rules are specs/Reader.antt; what a reader promises is specs/Answers.antt, and on a lent record specs/Lent.antt.
 // The code is in `escape`, `wire` and `lent`.
 // It stands on nothing.
+mod lent;
+mod reader;
+mod step;
+
+pub use lent::read_packet;
+pub use reader::emptied;
+pub use reader::read;
+pub use reader::read_in;
+pub use step::place_of;
+pub use step::taken_place;
 
 // RFC 1055.
 pub const END: u8 = 192;
@@ -43,29 +53,29 @@ pub struct Place {
 }
 
 // What the bytes came to. A packet's decoded bytes are the first ones of the reading's `bytes`, as many as it says.
-pub enum Outcome {
+pub enum PacketOutcome {
     Nothing,
     Packet(usize),
     Refused(Fault),
 }
 
-pub struct Answer {
+pub struct PacketAnswer {
     pub used: usize,
-    pub outcome: Outcome,
+    pub outcome: PacketOutcome,
     pub reading: Reading,
 }
 
 // An answer apart from its bytes.
-pub struct Told {
+pub struct PacketAt {
     pub used: usize,
-    pub outcome: Outcome,
+    pub outcome: PacketOutcome,
     pub place: Place,
 }
 
 // An answer apart from its reading, which lies where it was lent.
 pub struct PacketTold {
     pub used: usize,
-    pub outcome: Outcome,
+    pub outcome: PacketOutcome,
 }
 
 // What one byte asks the reader to do.
@@ -73,5 +83,5 @@ pub enum Action {
     Store(u8),
     Keep(Mode),
     Skip(Fault),
-    Give(Outcome),
+    Give(PacketOutcome),
 }

@@ -1,3 +1,6 @@
+pub mod Lines
+pub mod LinesLaws
+pub mod LinesVectors
 pub mod Listing
 pub mod Lists
 pub mod ListingLaws

@@ -5,8 +5,8 @@ use mathlib.Core.Bool.{cond}
 use lib.ListN.{length}
 use lib.Dec.{eqb}
 use Rattle.frame.specs.Frame.{Outcome, frame, refused}
-use Rattle.frame.specs.Reading.{END, emptied, outcomes, step}
-use Rattle.answers.specs.Lines.{frameLine, refusedLine, leftLine}
+use Rattle.frame.specs.Reader.{END, emptied, outcomes, step}
+use Rattle.lister.specs.Lines.{frameLine, refusedLine, leftLine}
 
 -- the line of an outcome
 abbrev pub outcomeLine : Outcome → List ℕ

@@ -11,21 +11,21 @@ use lib.ListN.{length, take, drop, getD, length-drop, length-append}
 use lib.Seq.{take-length, take-suc, take-add, length-take-le}
 use lib.Dec.{leb, eqb}
 use borrow.Author.Tests.{le-ltb}
-use Rattle.store.specs.Wrote.{Wrote}
-use Rattle.store.specs.WroteLaws.{none as wrote-none, then, kept, front-to, rest}
+use Rattle.memory.specs.Wrote.{Wrote}
+use Rattle.memory.specs.WroteLaws.{none as wrote-none, then, kept, front-to, rest}
 use Rattle.line.specs.declared.Place.{Place}
 use Rattle.frame.specs.Line.{limit, last, Clear, Takes}
-use Rattle.frame.specs.declared.Outcome.{Outcome as Given}
-use Rattle.frame.specs.declared.Outcome.the-variants as given
-use Rattle.frame.specs.declared.Refusal.{Refusal}
-use Rattle.frame.specs.declared.Refusal.the-variants as causes
-use Rattle.frame.specs.declared.Told.{Told}
+use Rattle.frame.specs.declared.FrameOutcome.{FrameOutcome as Given}
+use Rattle.frame.specs.declared.FrameOutcome.the-variants as given
+use Rattle.frame.specs.declared.PacketRefusal.{PacketRefusal}
+use Rattle.frame.specs.declared.PacketRefusal.the-variants as causes
+use Rattle.frame.specs.declared.FrameAt.{FrameAt}
 use Rattle.frame.specs.Frame.{Outcome, refusal, head}
-use Rattle.frame.specs.Reading.{END, State, Scan, takenAs, also, outcomes, final, step, read}
-use Rattle.frame.specs.ReadingLaws.{outcomes-append, final-append, Tells, scan-tells, used-some}
+use Rattle.frame.specs.Reader.{END, State, Scan, takenAs, also, outcomes, final, step, read}
+use Rattle.frame.specs.ReaderLaws.{outcomes-append, final-append, Tells, scan-tells, used-some}
 use Rattle.frame.specs.Answers.{told, Within, seen, answerOf, Answers}
-use Rattle.answers.specs.Lines.{refusedLine, leftLine, LINE}
-use Rattle.answers.specs.LinesLaws.{frameLine-short, refusedLine-short}
+use Rattle.lister.specs.Lines.{refusedLine, leftLine, LINE}
+use Rattle.lister.specs.LinesLaws.{frameLine-short, refusedLine-short}
 use Rattle.text.specs.Appended.{Memory, appended, Leaves}
 use Rattle.text.specs.AppendedLaws.{leaves-wrote}
 use Rattle.lister.specs.declared.Listed.{Listed}
@@ -54,7 +54,7 @@ given-short given.Nothing x = omega arith
 given-short (given.Frame c n) x = frameLine-short c n (omega arith)
 given-short (given.Refused r) x = refusedLine-short (refusal r) (small r)
   where
-    small : (r : Refusal) → refusal r < 2 ^ 64
+    small : (r : PacketRefusal) → refusal r < 2 ^ 64
     small causes.WrongEscape = omega arith
     small causes.TooLong = omega arith
     small causes.TooShort = omega arith
@@ -65,7 +65,7 @@ given-short (given.Refused r) x = refusedLine-short (refusal r) (small r)
 -- ---- one call more
 
 -- of the bytes w, n were used; a call on the rest uses some more, and tells what they add
-pub record MoreUsed (s : State) (w : List ℕ) (n : ℕ) (bs : List ℕ) (t : Told) : Type 0 where
+pub record MoreUsed (s : State) (w : List ℕ) (n : ℕ) (bs : List ℕ) (t : FrameAt) : Type 0 where
   pub some : 0 < t .used
   pub within : n + t .used ≤ length w
   pub state : takenAs bs (t .place .count) (t .place .mode) ≡ final step s (take (n + t .used) w)
@@ -75,7 +75,7 @@ pub record MoreUsed (s : State) (w : List ℕ) (n : ℕ) (bs : List ℕ) (t : To
   pub short : length (givenLine (t .outcome)) ≤ LINE
   pub lines : lines (outcomes step s (take (n + t .used) w)) ≡ lines (outcomes step s (take n w)) ++ givenLine (t .outcome)
 
-pub more-used : (s r : State) (w : List ℕ) (n : ℕ) (bs : List ℕ) (t : Told) → n < length w → r ≡ final step s (take n w)
+pub more-used : (s r : State) (w : List ℕ) (n : ℕ) (bs : List ℕ) (t : FrameAt) → n < length w → r ≡ final step s (take n w)
     → Answers (read r (take (length w - n) (drop n w))) (answerOf bs t) → MoreUsed s w n bs t
 more-used s r w n bs t h e a =
     let v : List ℕ = drop n w in
@@ -171,7 +171,7 @@ going-none w l bs full t = record {
   fits = omega arith;
 }
 
-pub going-more : {s : State} {w before after more bs cs : List ℕ} {p : Place} {n k j : ℕ} {t : Told} → Going s w before after bs p n k
+pub going-more : {s : State} {w before after more bs cs : List ℕ} {p : Place} {n k j : ℕ} {t : FrameAt} → Going s w before after bs p n k
     → MoreUsed s w n cs t → k + LINE ≤ length after → Leaves (appended after k (givenLine (t .outcome))) more j → Going s w before more cs (t .place) (n + t .used) j
 going-more {after = after} {k = k} {t = t} g x room y =
     let h : k + length (givenLine (t .outcome)) ≤ length after = omega (arith, x .short) in

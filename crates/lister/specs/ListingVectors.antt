@@ -3,10 +3,10 @@ use mathlib.Core.Path.{_≡_, refl}
 use mathlib.Core.List.{[], _∷_}
 use Rattle.frame.specs.Frame as frame
 use Rattle.frame.specs.Line as line
-use Rattle.frame.specs.Reading.{outcomes, inner, verdict, step}
+use Rattle.frame.specs.Reader.{outcomes, inner, verdict, step}
 use Rattle.frame.specs.Xor as xor
 use Rattle.text.specs.Text as text
-use Rattle.answers.specs.Lines as answers
+use Rattle.lister.specs.Lines as answers
 use Rattle.lister.specs.Listing.{lines, leftAfter, listing}
 
 -- P3 followed by P11, whole

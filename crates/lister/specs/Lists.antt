@@ -6,11 +6,11 @@ use mathlib.Core.Logic.{_⊎_}
 use lib.ListN.{length, take, drop}
 use Rattle.line.specs.declared.Place.{Place}
 use Rattle.frame.specs.Line.{limit, Clear}
-use Rattle.frame.specs.declared.Outcome.{Outcome as Given}
-use Rattle.frame.specs.declared.Outcome.the-variants as given
+use Rattle.frame.specs.declared.FrameOutcome.{FrameOutcome as Given}
+use Rattle.frame.specs.declared.FrameOutcome.the-variants as given
 use Rattle.frame.specs.Frame.{refusal}
-use Rattle.frame.specs.Reading.{State, taken, outcomes, final, step}
-use Rattle.answers.specs.Lines.{frameLine, refusedLine, leftLine, LINE}
+use Rattle.frame.specs.Reader.{State, taken, outcomes, final, step}
+use Rattle.lister.specs.Lines.{frameLine, refusedLine, leftLine, LINE}
 use Rattle.text.specs.Appended.{appended, Leaves}
 use Rattle.lister.specs.declared.Listed.{Listed}
 use Rattle.lister.specs.Listing.{lines, leftAfter, capped}

@@ -7,9 +7,9 @@ use lib.Dec.{eqb}
 use native.Mathlib.Omega.{arith}
 use lib.ListN.{take, drop}
 use lib.Seq.{take-at}
-use Rattle.frame.specs.Reading.{END, State, emptied, outcomes, final, step}
-use Rattle.frame.specs.ReadingLaws.{outcomes-append, final-append}
-use Rattle.answers.specs.Lines.{leftLine}
+use Rattle.frame.specs.Reader.{END, State, emptied, outcomes, final, step}
+use Rattle.frame.specs.ReaderLaws.{outcomes-append, final-append}
+use Rattle.lister.specs.Lines.{leftLine}
 use Rattle.lister.specs.Listing.{lines, leftAfter, capped, listing}
 use Rattle.lister.specs.ListingLaws.{lines-append, left-append}
 use Rattle.lister.specs.Lists.{Calls, done, next}

@@ -18,7 +18,7 @@ fn list_part(reading: Reading, left: u64, wire: &[u8]) -> State {
     let mut at = 0;
     let mut out = io::large_buffer();
     while at < wire.len() {
-        let listed = capture::list(r, k, &wire[at..], &mut out);
+        let listed = lister::list(r, k, &wire[at..], &mut out);
         let used = listed.used;
         let written = listed.written;
         let next = listed.reading;
@@ -43,7 +43,7 @@ fn list_part(reading: Reading, left: u64, wire: &[u8]) -> State {
 // Writes the last line.
 fn finish(left: u64) {
     let mut out = io::buffer();
-    let n = tally::last_line(&mut out, left);
+    let n = lister::last_line(&mut out, left);
     io::write_all(STDOUT_FILENO, &out[0..n]);
 }
 
@@ -71,7 +71,7 @@ fn turn(state: State) -> State {
 
 fn main() {
     let mut state = State {
-        reading: reader::emptied(),
+        reading: frame::emptied(),
         left: 0,
         going: true,
     };

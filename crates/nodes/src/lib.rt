@@ -1,6 +1,20 @@
 // The node table's rules: 200 records of 72 bytes (document 01, "What the commands do").
 // It has no code. Layout, commands and host calls are defined in specs/Table.antt, with laws of them; sizes and types are declared here.
 // It stands on nothing.
+mod enrolment;
+mod fields;
+mod notification;
+mod table;
+
+pub use enrolment::empty;
+pub use enrolment::enrol;
+pub use fields::set_name;
+pub use fields::set_order_and_placement;
+pub use fields::set_variation;
+pub use notification::information;
+pub use table::in_use;
+pub use table::is_removed;
+pub use table::remove;
 
 // How many nodes there are, how long a record is, and the table of all records.
 pub const NODES: usize = 200;

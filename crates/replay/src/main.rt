@@ -6,9 +6,9 @@ ghost use lib.ListN.{length};
 ghost use Rattle.script.specs.Script.{longest};
 use libc::STDIN_FILENO;
 use libc::STDOUT_FILENO;
-use parser::LONGEST;
-use parser::TABLE_MOST;
-use playing::Run;
+use script::LONGEST;
+use script::TABLE_MOST;
+use transcript::Run;
 
 // Bytes of an open line that are held: one more than the longest line has, so that a longer one is seen to be.
 const HELD: usize = LONGEST + 1;
@@ -101,7 +101,11 @@ fn take(run: Run, bytes: &[u8], seen: usize, table: &mut [u8], out: &mut [u8]) -
     let mut end = line_end(bytes, seen);
     while end < bytes.len() {
         let next = end + 1;
-        let played = flush(playing::play(all, &bytes[from..end], table, out), out, FULL);
+        let played = flush(
+            transcript::play(all, &bytes[from..end], table, out),
+            out,
+            FULL,
+        );
         all = played.run;
         if !played.going {
             return played;
@@ -136,7 +140,7 @@ fn last(run: Run, line: &[u8], table: &mut [u8], out: &mut [u8]) -> Progress {
     if line.len() == 0 {
         return flush(run, out, 0);
     }
-    flush(playing::play(run, line, table, out), out, 0)
+    flush(transcript::play(run, line, table, out), out, 0)
 }
 
 // Reads once.
@@ -161,7 +165,7 @@ fn main() {
     let mut table = [0u8; TABLE_MOST];
     let mut text = [0u8; TEXT];
     let mut out = io::large_buffer();
-    let mut run = playing::first();
+    let mut run = transcript::first();
     let mut held = 0;
     // Each turn reads at least a byte: no input has more.
     let mut turns: u64 = 18446744073709551615;

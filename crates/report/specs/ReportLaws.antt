@@ -8,7 +8,7 @@ use lib.ListN.{length, drop, getD, drop-of-length-le}
 use lib.Seq.{drop-cons}
 use borrow.Author.Tests.{eq-eqb, ne-eqb}
 use lib.Dec.{eqb}
-use Rattle.answers.specs.Report.{hasOther}
+use Rattle.report.specs.Report.{hasOther}
 
 pub other-on : (filler : ℕ) (l : List ℕ) (i : ℕ) → i < length l → getD l i 0 ≡ filler → hasOther filler (drop i l) ≡ hasOther filler (drop (i + 1) l)
 unfolding hasOther

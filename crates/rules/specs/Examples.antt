@@ -4,7 +4,7 @@ use mathlib.Core.Path.{_≡_, refl}
 use mathlib.Core.List.{List, [], _∷_, map}
 use Rattle.frame.specs.Line as line
 use Rattle.frame.specs.Frame.{Outcome, frame, refused, wire, escape, framed, body, judge, tooShort, wrongProtocol, wrongLength, wrongCheck}
-use Rattle.frame.specs.Reading.{emptied, outcomes, step, verdict, inner}
+use Rattle.frame.specs.Reader.{emptied, outcomes, step, verdict, inner}
 use Rattle.frame.specs.Xor as xor
 use Rattle.directory.specs.Directory.{directory}
 use Rattle.directory.specs.Lookup as lookup

@@ -5,10 +5,10 @@ use mathlib.Core.Bool.{Bool, true, false, cond, not, _||_}
 use mathlib.Core.Option.{Option, none, some}
 use lib.ListN.{length, take, drop, set, getD, replicate}
 use lib.Dec.{ltb, eqb}
-use Rattle.octets.specs.Octets.{same}
+use Rattle.memory.specs.Octets.{same}
 use Rattle.frame.specs.Frame.{Outcome, frame, refused, wire}
-use Rattle.frame.specs.Reading.{State, emptied}
-use Rattle.frame.specs.Writing.{minRoom}
+use Rattle.frame.specs.Reader.{State, emptied}
+use Rattle.frame.specs.Writer.{minRoom}
 use Rattle.nodes.specs.Table as table
 use Rattle.sessions.specs.Sessions as sessions
 use Rattle.sessions.specs.declared.Slot.{Slot}

@@ -5,3 +5,10 @@ pub mod Promises
 pub mod Lengths
 pub mod Examples
 pub mod Replies
+pub mod Answers
+pub mod LinePromises
+pub mod Lent
+pub mod LentLaws
+pub mod RoomReplies
+pub mod ReplyLaws
+pub mod CallExamples

@@ -5,7 +5,7 @@ use mathlib.Core.List.{List, _++_}
 use mathlib.Core.Option.{Option, some}
 use lib.ListN.{length, drop}
 use Rattle.line.specs.declared.Reading.{Reading}
-use Rattle.frame.specs.Reading.{taken}
+use Rattle.frame.specs.Reader.{taken}
 use Rattle.rules.specs.declared.Hub.{Hub}
 use Rattle.rules.specs.Hub.{Started, start, Enrolled, enrol, close, Finish, finish}
 

@@ -7,11 +7,11 @@ use mathlib.Core.Bool.{Bool, true, false}
 use native.Mathlib.Omega.{arith}
 use Rattle.frame.specs.Frame.{refused}
 use Rattle.line.specs.declared.Reading.{Reading}
-use Rattle.frame.specs.Reading.{State, taken}
+use Rattle.frame.specs.Reader.{State, taken}
 use lib.Dec.{ltb}
 use lib.ListN.{length, drop, replicate}
 use borrow.Author.Tests.{eq-eqb, ne-eqb, lt-ltb, le-ltb}
-use Rattle.frame.specs.Writing.{minRoom}
+use Rattle.frame.specs.Writer.{minRoom}
 use Rattle.nodes.specs.Table.{tableSize, nodeCount, inUse, enrolled}
 use Rattle.nodes.specs.TableLaws.{used-below}
 use Rattle.sessions.specs.Sessions as sessions

@@ -6,7 +6,7 @@ use mathlib.Core.Bool.{Bool, true, false}
 use mathlib.Core.Option.{none, some}
 use lib.ListN.{length, set, replicate}
 use Rattle.frame.specs.Frame.{Outcome, frame, refused, wire, escape, framed, body}
-use Rattle.frame.specs.Reading.{plain, emptied}
+use Rattle.frame.specs.Reader.{plain, emptied}
 use Rattle.frame.specs.Xor as xor
 use Rattle.directory.specs.Directory.{directory}
 use Rattle.directory.specs.Lookup as lookup
@@ -18,7 +18,7 @@ use Rattle.sessions.specs.Sessions.{slotCount, targetCount, closedSlot}
 use Rattle.sessions.specs.declared.Slot.{Slot}
 use Rattle.rules.specs.declared.Hub.{Hub}
 use Rattle.rules.specs.Hub as rules
-use Rattle.octets.specs.Octets.{same}
+use Rattle.memory.specs.Octets.{same}
 use Rattle.rules.specs.Hub.{Reply, firstHub, serve, request, enter, close, finish}
 
 -- ---- hubs and tables

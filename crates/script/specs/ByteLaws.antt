@@ -11,7 +11,7 @@ use lib.ListN.{length, getD, drop, drop-of-length-le}
 use lib.Seq.{drop-cons}
 use lib.Dec.{leb, ltb}
 use borrow.Author.Tests.{leb-true, ltb-true, le-leb, lt-leb}
-use Rattle.octets.specs.OctetsLaws.{same-lengths}
+use Rattle.memory.specs.OctetsLaws.{same-lengths}
 use Rattle.text.specs.Text.{ascii}
 use Rattle.script.specs.Script.{between, digitsFrom, digitsMost, leadingZero, isPlain, number, kept, numberUpTo, hexValue, allHex, isEven, isBytes, pairs, bytes}
 use Rattle.script.specs.Answers.{decoded, fitting}

@@ -6,7 +6,7 @@ use mathlib.Core.Option.{Option, none, some, Option·none-ne-some, Option·some-
 use native.Mathlib.Omega.{arith}
 use lib.ListN.{length, take, drop}
 use borrow.Author.Tests.{le-leb, lt-leb}
-use Rattle.octets.specs.Octets.{same}
+use Rattle.memory.specs.Octets.{same}
 use Rattle.text.specs.Text.{ascii}
 use Rattle.script.specs.Script.{longest, byteMost, pairMost, roomMost, tableMost, tableRight, words, isPlain, number, numberUpTo, isBytes, bytes, starts, enrols, feeds, closes, finishes, tableOf, startOf, enrolOf, feedOf, closeOf, finishOf, called, callOf, parse}
 use Rattle.script.specs.Code.{wordEnd, wordsFrom, first, rest, lastNumber}

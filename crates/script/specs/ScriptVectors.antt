@@ -5,7 +5,7 @@ use mathlib.Core.List.{List, [], _∷_, map}
 use mathlib.Core.Option.{Option, none, some}
 use native.Mathlib.Omega.{arith}
 use lib.ListN.{length, replicate, length-replicate}
-use Rattle.octets.specs.Octets.{same}
+use Rattle.memory.specs.Octets.{same}
 use Rattle.text.specs.Text.{ascii}
 use Rattle.script.specs.Script.{words, digitsFrom, isPlain, number, numberUpTo, hexValue, allHex, isBytes, pairs, bytes, Call, start, enrol, feed, close, finish, show, tableOf, startOf, enrolOf, feedOf, closeOf, finishOf, showOf, called, callOf, parse}
 use Rattle.script.specs.Answers.{decoded, fitting}

@@ -1,5 +1,14 @@
 // The script of `replay`: what a line of text stands for. It has no code; the format is defined in specs/Script.antt.
 // It stands on the codes of characters, on bytes compared, and on the size of the node table.
+mod hex;
+mod numbers;
+mod parser;
+
+pub use hex::decode;
+pub use parser::LONGEST;
+pub use parser::ROOM_MOST;
+pub use parser::TABLE_MOST;
+pub use parser::parse;
 
 // A line's call. Its bytes stay where they are: `at` and `len` tell the word of hexadecimal digits.
 pub enum Call {

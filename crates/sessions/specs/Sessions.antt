@@ -9,7 +9,7 @@ use Rattle.nodes.specs.Table.{inUse, isRemoved, nodeCount}
 use Rattle.sessions.specs.declared.Slot.{Slot}
 use Rattle.sessions.specs.declared.ModeSend.{ModeSend}
 use Rattle.sessions.specs.declared.Sent.{Sent}
-use Rattle.sessions.specs.declared.Told.the-variants.{Line, NotOpen}
+use Rattle.sessions.specs.declared.Owner.the-variants.{Line, NotOpen}
 use Rattle.sessions.specs.declared.Ended.{Ended}
 use Rattle.sessions.specs.Search.{any, first, member, below}
 

@@ -1,6 +1,18 @@
 // The open sessions: which line holds which motors (document 01, "What the commands do", mode send and host calls).
 // It has no code: the types stand here, the rules in specs/Sessions.antt. The code is in `slots`, `closing`, `asked`, `targets` and `opening`.
 // It stands on the node table's rules.
+mod closing;
+mod opening;
+mod request;
+mod slots;
+mod targets;
+
+pub use closing::close_line;
+pub use closing::close_removed;
+pub use opening::mode_send;
+pub use request::mode_send_of;
+pub use slots::finish;
+pub use slots::none;
 
 // Slots for all lines together, the nodes that a session may hold, and the indices of a mode send.
 pub const SLOTS: usize = 8;
@@ -50,12 +62,12 @@ pub struct Sent {
 }
 
 // What finishing a session tells: its line, or that its number is not open.
-pub enum Told {
+pub enum Owner {
     Line(u8),
     NotOpen,
 }
 
 pub struct Ended {
-    pub told: Told,
+    pub told: Owner,
     pub slots: [Slot; SLOTS],
 }

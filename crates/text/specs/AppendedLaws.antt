@@ -8,8 +8,8 @@ use lib.ListN.{length, length-append}
 use lib.Seq.{sets}
 use lib.Dec.{leb}
 use borrow.Author.Tests.{leb-true, le-leb, lt-leb}
-use Rattle.store.specs.Wrote.{Wrote}
-use Rattle.store.specs.WroteLaws.{then, kept}
+use Rattle.memory.specs.Wrote.{Wrote}
+use Rattle.memory.specs.WroteLaws.{then, kept}
 use Rattle.text.specs.Appended.{Memory, appended, Leaves}
 
 pub appended-whole : (l : List ℕ) (at : ℕ) (text : List ℕ) → at + length text ≤ length l

@@ -3,7 +3,7 @@ use Prim.Native.Nat.{ℕ, _≤_}
 use mathlib.Core.Path.{_≡_}
 use mathlib.Core.List.{List}
 use lib.ListN.{length}
-use Rattle.store.specs.Wrote.{Wrote}
+use Rattle.memory.specs.Wrote.{Wrote}
 
 -- `text` stands at the front of `after`, which has `size` bytes, and ends at `end`; it has no more than `most` bytes
 pub record Built (size most : ℕ) (text after : List ℕ) (end : ℕ) : Type 0 where

@@ -6,8 +6,8 @@ use native.Mathlib.Nat.{zero-add, le-refl}
 use native.Mathlib.Omega.{arith}
 use lib.ListN.{length, length-append, take, drop}
 use lib.Seq.{take-at}
-use Rattle.store.specs.Wrote.{Wrote}
-use Rattle.store.specs.WroteLaws.{none, then, kept, front-to}
+use Rattle.memory.specs.Wrote.{Wrote}
+use Rattle.memory.specs.WroteLaws.{none, then, kept, front-to}
 use Rattle.text.specs.Appended.{appended, Leaves}
 use Rattle.text.specs.AppendedLaws.{leaves-wrote}
 use Rattle.text.specs.Built.{Built}

@@ -5,3 +5,7 @@ pub mod TextVectors
 pub mod AppendedLaws
 pub mod Built
 pub mod BuiltLaws
+pub mod NumberedLaws
+pub mod Bytes
+pub mod BytesLaws
+pub mod BytesVectors

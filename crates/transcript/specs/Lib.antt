@@ -8,3 +8,5 @@ pub mod PlayingLaws
 pub mod PlayingVectors
 pub mod StateVectors
 pub mod RepliesVectors
+pub mod Plays
+pub mod PlaysLaws

@@ -6,11 +6,11 @@ use mathlib.Core.Option.{Option, none, some}
 use lib.ListN.{length, take, drop, getD, set, replicate}
 use Rattle.frame.specs.Frame as packet
 use Rattle.frame.specs.Frame.{Outcome}
-use Rattle.frame.specs.Reading.{emptied}
+use Rattle.frame.specs.Reader.{emptied}
 use Rattle.feeds.specs.System as system
 use Rattle.rules.specs.Hub as rules
 use Rattle.script.specs.Script as script
-use Rattle.answers.specs.Report.{badLine, doneLine, refusedLine, finishedLine, noneLine, frameLine, packetLine}
+use Rattle.report.specs.Report.{badLine, doneLine, refusedLine, finishedLine, noneLine, frameLine, packetLine}
 use Rattle.transcript.specs.State.{stateLines}
 
 -- what lasts from line to line: the hub, the table buffer, and the lines' reading states

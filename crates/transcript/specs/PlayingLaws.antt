@@ -12,28 +12,28 @@ use borrow.Author.Tests.{eq-eqb}
 use Rattle.line.specs.declared.Reading.{Reading}
 use Rattle.frame.specs.Line.{limit}
 use Rattle.frame.specs.Answers as outcome
-use Rattle.frame.specs.declared.Outcome.{Outcome as Given}
-use Rattle.frame.specs.declared.Outcome.the-variants as given
+use Rattle.frame.specs.declared.FrameOutcome.{FrameOutcome as Given}
+use Rattle.frame.specs.declared.FrameOutcome.the-variants as given
 use Rattle.feeds.specs.System as system
 use Rattle.feeds.specs.Service.{lengthOf, called}
 use Rattle.feeds.specs.ServiceLaws.{call-length, refused-untouched}
-use Rattle.frame.specs.Writing.{minRoom}
+use Rattle.frame.specs.Writer.{minRoom}
 use Rattle.sessions.specs.Sessions as sessions
 use Rattle.rules.specs.declared.Hub.{Hub}
 use Rattle.rules.specs.Hub as rules
 use Rattle.rules.specs.Promises.{Finishes}
 use Rattle.rules.specs.Refusals.{finish-refused}
-use Rattle.calls.specs.declared.CallAnswer.{CallAnswer}
-use Rattle.calls.specs.declared.CallAnswer.the-variants as call
-use Rattle.calls.specs.declared.FinishAnswer.{FinishAnswer}
-use Rattle.calls.specs.declared.FinishAnswer.the-variants as finish
-use Rattle.calls.specs.declared.Finished.{Finished}
-use Rattle.calls.specs.declared.FeedAnswer.{FeedAnswer}
-use Rattle.calls.specs.declared.FeedAnswer.the-variants as feed
-use Rattle.calls.specs.declared.Fed.{Fed}
-use Rattle.calls.specs.Answers.{number, refusalOf, finishedOf, answerOf}
-use Rattle.calls.specs.Promises.{FeedsByValue}
-use Rattle.answers.specs.Report.{refusedLine, frameLine, hasOther, hasSpilled}
+use Rattle.rules.specs.declared.CallAnswer.{CallAnswer}
+use Rattle.rules.specs.declared.CallAnswer.the-variants as call
+use Rattle.rules.specs.declared.FinishAnswer.{FinishAnswer}
+use Rattle.rules.specs.declared.FinishAnswer.the-variants as finish
+use Rattle.rules.specs.declared.Finished.{Finished}
+use Rattle.rules.specs.declared.FeedAnswer.{FeedAnswer}
+use Rattle.rules.specs.declared.FeedAnswer.the-variants as feed
+use Rattle.rules.specs.declared.Fed.{Fed}
+use Rattle.rules.specs.Answers.{number, refusalOf, finishedOf, answerOf}
+use Rattle.rules.specs.LinePromises.{FeedsByValue}
+use Rattle.report.specs.Report.{refusedLine, frameLine, hasOther, hasSpilled}
 use Rattle.transcript.specs.Replies.{filler, callLine, refusalLine, finishLine, outcomeLine, feedLine}
 use Rattle.transcript.specs.Playing.{callTold, finishTold, outcomeTold, feedTold}
 

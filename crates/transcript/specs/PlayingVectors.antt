@@ -6,7 +6,7 @@ use mathlib.Core.Bool.{true, false}
 use mathlib.Core.Option.{none, some}
 use lib.ListN.{set, replicate}
 use Rattle.frame.specs.Frame as frame
-use Rattle.frame.specs.Reading.{State, plain, emptied}
+use Rattle.frame.specs.Reader.{State, plain, emptied}
 use Rattle.frame.specs.Xor as xor
 use Rattle.feeds.specs.System as system
 use Rattle.sessions.specs.Search as search
@@ -16,8 +16,8 @@ use Rattle.rules.specs.declared.Hub.{Hub}
 use Rattle.rules.specs.Hub as rules
 use Rattle.script.specs.Script as script
 use Rattle.text.specs.Text.{ascii, digit, decimalIn, decimal, hex4}
-use Rattle.answers.specs.Bytes.{hexPairs, bytesWord}
-use Rattle.answers.specs.Report.{badLine, doneLine, lineEnd, refusedLine, finishedLine, noneLine, frameLine, packetLine}
+use Rattle.text.specs.Bytes.{hexPairs, bytesWord}
+use Rattle.report.specs.Report.{badLine, doneLine, lineEnd, refusedLine, finishedLine, noneLine, frameLine, packetLine}
 use Rattle.transcript.specs.Playing.{World, Played, callTold, finishTold, outcomeTold, feedTold, start, enrol, feed, close, finish, bad, play}
 
 abbrev opened : Slot

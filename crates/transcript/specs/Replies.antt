@@ -4,17 +4,17 @@ use mathlib.Core.List.{List}
 use mathlib.Core.Bool.{Bool, false}
 use lib.ListN.{take}
 use Rattle.frame.specs.Frame.{refusal}
-use Rattle.frame.specs.declared.Outcome.{Outcome}
-use Rattle.frame.specs.declared.Outcome.the-variants as outcome
-use Rattle.calls.specs.Answers.{number}
-use Rattle.calls.specs.declared.Refusal.{Refusal}
-use Rattle.calls.specs.declared.CallAnswer.{CallAnswer}
-use Rattle.calls.specs.declared.CallAnswer.the-variants as call
-use Rattle.calls.specs.declared.FinishAnswer.{FinishAnswer}
-use Rattle.calls.specs.declared.FinishAnswer.the-variants as finish
-use Rattle.calls.specs.declared.FeedAnswer.{FeedAnswer}
-use Rattle.calls.specs.declared.FeedAnswer.the-variants as feed
-use Rattle.answers.specs.Report.{doneLine, refusedLine, finishedLine, noneLine, frameLine, packetLine, hasSpilled}
+use Rattle.frame.specs.declared.FrameOutcome.{FrameOutcome}
+use Rattle.frame.specs.declared.FrameOutcome.the-variants as outcome
+use Rattle.rules.specs.Answers.{number}
+use Rattle.rules.specs.declared.CallRefusal.{CallRefusal}
+use Rattle.rules.specs.declared.CallAnswer.{CallAnswer}
+use Rattle.rules.specs.declared.CallAnswer.the-variants as call
+use Rattle.rules.specs.declared.FinishAnswer.{FinishAnswer}
+use Rattle.rules.specs.declared.FinishAnswer.the-variants as finish
+use Rattle.rules.specs.declared.FeedAnswer.{FeedAnswer}
+use Rattle.rules.specs.declared.FeedAnswer.the-variants as feed
+use Rattle.report.specs.Report.{doneLine, refusedLine, finishedLine, noneLine, frameLine, packetLine, hasSpilled}
 
 -- the reply buffer is filled with it before each call
 abbrev pub filler : ℕ
@@ -26,7 +26,7 @@ callLine call.Done = doneLine
 callLine (call.Refused r) = refusedLine (number r) false
 
 -- a call with room: where it is refused, no byte of the room may have changed
-unfoldable pub refusalLine : Refusal → List ℕ → List ℕ
+unfoldable pub refusalLine : CallRefusal → List ℕ → List ℕ
 refusalLine r room = refusedLine (number r) (hasSpilled room 0 filler)
 
 -- else the reply stands at the room's front, and no byte behind it may have changed
@@ -35,7 +35,7 @@ finishLine (finish.Finished line len) room = finishedLine line (take len room) (
 finishLine (finish.Refused r) room = refusalLine r room
 
 -- by what a feed came to
-unfoldable pub outcomeLine : ℕ → Outcome → List ℕ → Bool → List ℕ
+unfoldable pub outcomeLine : ℕ → FrameOutcome → List ℕ → Bool → List ℕ
 outcomeLine used outcome.Nothing reply spilled = noneLine used reply spilled
 outcomeLine used (outcome.Frame command len) reply spilled = frameLine used command len reply spilled
 outcomeLine used (outcome.Refused r) reply spilled = packetLine used (refusal r) reply spilled

@@ -1,15 +1,15 @@
 -- The answers' lines at some answers and rooms.
 use mathlib.Core.Path.{_≡_, refl}
 use mathlib.Core.List.{[], _∷_}
-use Rattle.frame.specs.declared.Refusal.the-variants as cause
-use Rattle.frame.specs.declared.Outcome.the-variants as outcome
-use Rattle.calls.specs.declared.Refusal.the-variants as refusal
-use Rattle.calls.specs.declared.CallAnswer.the-variants as call
-use Rattle.calls.specs.declared.FinishAnswer.the-variants as finish
-use Rattle.calls.specs.declared.FeedAnswer.the-variants as feed
+use Rattle.frame.specs.declared.PacketRefusal.the-variants as cause
+use Rattle.frame.specs.declared.FrameOutcome.the-variants as outcome
+use Rattle.rules.specs.declared.CallRefusal.the-variants as refusal
+use Rattle.rules.specs.declared.CallAnswer.the-variants as call
+use Rattle.rules.specs.declared.FinishAnswer.the-variants as finish
+use Rattle.rules.specs.declared.FeedAnswer.the-variants as feed
 use Rattle.text.specs.Text.{ascii, digit, decimalIn, decimal}
-use Rattle.answers.specs.Bytes.{hexPairs, bytesWord}
-use Rattle.answers.specs.Report.{doneLine, lineEnd, refusedLine, finishedLine, noneLine, frameLine, packetLine, hasOther, hasSpilled}
+use Rattle.text.specs.Bytes.{hexPairs, bytesWord}
+use Rattle.report.specs.Report.{doneLine, lineEnd, refusedLine, finishedLine, noneLine, frameLine, packetLine, hasOther, hasSpilled}
 use Rattle.transcript.specs.Replies.{callLine, refusalLine, finishLine, outcomeLine, feedLine}
 
 call-done : callLine call.Done ≡ ascii "done\n"

@@ -5,16 +5,16 @@ use mathlib.Core.Bool.{cond}
 use lib.ListN.{length, getD}
 use lib.Dec.{leb}
 use Rattle.line.specs.declared.Fault.the-variants as fault
-use Rattle.frame.specs.Reading.{State, plain, escaped, skipping, emptied, held}
+use Rattle.frame.specs.Reader.{State, plain, escaped, skipping, emptied, held}
 use Rattle.nodes.specs.Table.{nodeCount, recordSize, recordOf}
 use Rattle.sessions.specs.declared.Slot.{Slot}
 use Rattle.sessions.specs.Sessions.{slotCount, closedSlot}
 use Rattle.rules.specs.declared.Hub.{Hub}
 use Rattle.rules.specs.Hub.{lineCount}
-use Rattle.answers.specs.declared.Mode.{Mode}
-use Rattle.answers.specs.declared.Mode.the-variants as mode
-use Rattle.answers.specs.Report.{hasOther}
-use Rattle.answers.specs.Shows.{loginLine, slotLine, nodeLine, readingLine, endLine}
+use Rattle.report.specs.declared.Mode.{Mode}
+use Rattle.report.specs.declared.Mode.the-variants as mode
+use Rattle.report.specs.Report.{hasOther}
+use Rattle.report.specs.State.{loginLine, slotLine, nodeLine, readingLine, endLine}
 use Rattle.transcript.specs.Lines.{linesBelow}
 
 -- a slot, where it is open

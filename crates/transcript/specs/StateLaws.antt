@@ -6,7 +6,7 @@ use lib.ListN.{take}
 use Rattle.line.specs.declared.Mode.{Mode}
 use Rattle.line.specs.declared.Mode.the-variants as mode
 use Rattle.frame.specs.Line.{Clear}
-use Rattle.frame.specs.Reading.{held, at}
+use Rattle.frame.specs.Reader.{held, at}
 use Rattle.transcript.specs.State.{modeOf}
 
 pub held-at : (bs : List ℕ) (n : ℕ) (m : Mode) → Clear m n → held (at (take n bs) m) ≡ take n bs

@@ -7,16 +7,16 @@ use lib.ListN.{set, replicate}
 use Rattle.line.specs.declared.Fault.the-variants as fault
 use Rattle.line.specs.declared.Mode.the-variants as mode
 use Rattle.line.specs.declared.Reading.{Reading}
-use Rattle.frame.specs.Reading.{taken}
+use Rattle.frame.specs.Reader.{taken}
 use Rattle.nodes.specs.Table.{recordSize}
 use Rattle.sessions.specs.declared.Slot.{Slot}
 use Rattle.sessions.specs.Sessions.{slotCount, closedSlot, targetCount}
 use Rattle.rules.specs.declared.Hub.{Hub}
 use Rattle.text.specs.Text.{ascii, digit, decimalIn, decimal}
 use Rattle.text.specs.Appended.{appended}
-use Rattle.answers.specs.Bytes.{hexPairs, bytesWord}
-use Rattle.answers.specs.Report.{hasOther}
-use Rattle.answers.specs.Shows.{flag, loginLine, nodeWord, nodesBelow, slotLine, nodeLine, modeWord, readingLine, endLine}
+use Rattle.text.specs.Bytes.{hexPairs, bytesWord}
+use Rattle.report.specs.Report.{hasOther}
+use Rattle.report.specs.State.{flag, loginLine, nodeWord, nodesBelow, slotLine, nodeLine, modeWord, readingLine, endLine}
 use Rattle.transcript.specs.Lines.{appendedAll, linesBelow}
 use Rattle.transcript.specs.State.{slotLines, recordLines, nodeLines, modeOf, readingLines, stateLines}
 

@@ -3,3 +3,12 @@
 // `playing`, `answering` and `showing`.
 // It stands on the script's calls and the lines of `answers`, and on what the line and the frame layer, the node table, the sessions, the
 // lists of feeds and the hub state.
+mod answers;
+mod playing;
+mod state;
+
+pub use answers::FILLER;
+pub use answers::feed_line;
+pub use playing::Run;
+pub use playing::first;
+pub use playing::play;

@@ -2,7 +2,7 @@ use Prim.Native.Nat.{_≤_}
 use mathlib.Core.Path.{_≡_}
 use native.Mathlib.Omega.{arith}
 use lib.ListN.{length}
-use Rattle.answers.specs.Lines.{LINE}
+use Rattle.lister.specs.Lines.{LINE}
 use Rattle.text.specs.AppendedLaws.{appended-within}
 use borrow.Author.Needs.{needs}
 use Rattle.commands.proofs.write_entry.Statement.{statement}

@@ -36,21 +36,21 @@ use denote.Triple.Table.{entered, cited}
 use denote.Triple.Walked.{Stays, stay-none-slice, walkOf, goes-none-slice, Walks, ends-at, walked, walk-meets}
 use denote.Exit.{yes}
 use denote.Triple.Clauses.{ensured}
-use Rattle.view.specs.declared.View.{View}
-use Rattle.view.proofs.View as T
-use Rattle.view.proofs.View.Laws as T′
-use Rattle.view.proofs.show as show
-use Rattle.view.proofs.show.Symbol as show-def
-use Rattle.view.proofs.show.Symbol.{name as #view·show}
-use Rattle.view.proofs.show.Met as show-thm
-use Rattle.view.proofs.command as command
-use Rattle.view.proofs.command.Symbol as command-def
-use Rattle.view.proofs.command.Symbol.{name as #view·command}
-use Rattle.view.proofs.command.Met as command-thm
-use Rattle.view.proofs.data as part
-use Rattle.view.proofs.data.Symbol as part-def
-use Rattle.view.proofs.data.Symbol.{name as #view·data}
-use Rattle.view.proofs.data.Met as part-thm
+use Rattle.frame.specs.declared.view.View.{View}
+use Rattle.frame.proofs.view.View as T
+use Rattle.frame.proofs.view.View.Laws as T′
+use Rattle.frame.proofs.show as show
+use Rattle.frame.proofs.show.Symbol as show-def
+use Rattle.frame.proofs.show.Symbol.{name as #view·show}
+use Rattle.frame.proofs.show.Met as show-thm
+use Rattle.frame.proofs.command as command
+use Rattle.frame.proofs.command.Symbol as command-def
+use Rattle.frame.proofs.command.Symbol.{name as #view·command}
+use Rattle.frame.proofs.command.Met as command-thm
+use Rattle.frame.proofs.data as part
+use Rattle.frame.proofs.data.Symbol as part-def
+use Rattle.frame.proofs.data.Symbol.{name as #view·data}
+use Rattle.frame.proofs.data.Met as part-thm
 use Rattle.framing.specs.declared.Copied.{Copied}
 use Rattle.framing.proofs.Copied as X
 use Rattle.framing.proofs.Copied.Laws as X′
@@ -201,7 +201,7 @@ seen-spec 𝓤 H 𝓜 𝓖 𝓡 =
     entered 𝓤 H (tripleOf 𝓤 H (𝓖 .A) seen.signature (seen.spec 𝓤 H (𝓖 .A) (𝓜 .mem) (𝓡 .run)))
     (tables 𝓤 H 𝓜 𝓡 code.env .C) (tables 𝓤 H 𝓜 𝓡 code.env .Λ) #framing·seen code.function (code.unfolded 𝓤 H 𝓜 𝓡)
     (seen-meets 𝓤 H (𝓖 .A) (givenOf 𝓤 H 𝓜 𝓖) (𝓜 .mem) (𝓡 .run) (tablesOf 𝓤 H 𝓜 (tables 𝓤 H 𝓜 𝓡 code.env))
-    (cited 𝓤 H (Show 𝓤 H (𝓖 .A) (𝓜 .mem) (𝓡 .run)) 𝓜 𝓡 code.env #view·show show-def.routine code.calls-view·show (show-thm.met 𝓤 H 𝓜 𝓖 𝓡))
-    (cited 𝓤 H (Command 𝓤 H (𝓖 .A) (𝓜 .mem) (𝓡 .run)) 𝓜 𝓡 code.env #view·command command-def.routine code.calls-view·command (command-thm.met 𝓤 H 𝓜 𝓖 𝓡))
-    (cited 𝓤 H (Part 𝓤 H (𝓖 .A) (𝓜 .mem) (𝓡 .run)) 𝓜 𝓡 code.env #view·data part-def.routine code.calls-view·data (part-thm.met 𝓤 H 𝓜 𝓖 𝓡))
+    (cited 𝓤 H (Show 𝓤 H (𝓖 .A) (𝓜 .mem) (𝓡 .run)) 𝓜 𝓡 code.env #view·show show-def.routine code.calls-frame·show (show-thm.met 𝓤 H 𝓜 𝓖 𝓡))
+    (cited 𝓤 H (Command 𝓤 H (𝓖 .A) (𝓜 .mem) (𝓡 .run)) 𝓜 𝓡 code.env #view·command command-def.routine code.calls-frame·command (command-thm.met 𝓤 H 𝓜 𝓖 𝓡))
+    (cited 𝓤 H (Part 𝓤 H (𝓖 .A) (𝓜 .mem) (𝓡 .run)) 𝓜 𝓡 code.env #view·data part-def.routine code.calls-frame·data (part-thm.met 𝓤 H 𝓜 𝓖 𝓡))
     (cited 𝓤 H (Shown 𝓤 H (𝓖 .A) (𝓜 .mem) (𝓡 .run)) 𝓜 𝓡 code.env #framing·shown shown-def.routine code.calls-framing·shown (shown-thm.met 𝓤 H 𝓜 𝓖 𝓡)))

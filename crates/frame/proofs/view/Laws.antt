@@ -1,0 +1,34 @@
+-- What the judge, `command_of` and `part_of` promise makes what `show` promises.
+use Prim.Native.Nat.{ℕ, _+_, _≤_}
+use mathlib.Core.Path.{_≡_, subst}
+use mathlib.Core.List.{List}
+use native.Mathlib.Omega.{arith}
+use lib.ListN.{length, take, drop, length-drop}
+use lib.Seq.{length-take-le}
+use denote.Ref.{RefT}
+use Rattle.frame.specs.Frame.{Outcome, judge}
+use Rattle.frame.specs.Answers.{Judges, JudgedWithin, judgedAs}
+use Rattle.frame.specs.declared.Judged.{Judged}
+use Rattle.frame.specs.declared.Judged.the-variants as judged
+use Rattle.frame.specs.View.{Part}
+use Rattle.frame.specs.Shown.{Shows}
+use Rattle.frame.specs.ShownCode.{commandIn, partIn}
+
+-- a part that lies within a list is as long as it says
+part-length : (s n : ℕ) (h : List ℕ) → s + n ≤ length h → length (take n (drop s h)) ≡ n
+part-length s n h l = length-take-le n (drop s h) (let e = length-drop s h in omega arith)
+
+-- what is shown of a judgement is what it tells
+shows-told : (x : RefT (List ℕ)) (j : Judged) (c : ℕ) (d : RefT (List ℕ)) → JudgedWithin (x .now) j → c ≡ commandIn j → partIn x j d
+    → Shows (judgedAs (x .now) j) x (record { command = c; «data» = d })
+shows-told x (judged.Frame c s n) c′ d w e p =
+    record {
+      command = e;
+      told = p .bytes;
+      part = rw (part-length s n (x .now) (p .within)) (subst (λ (k : ℕ). Part x k n d) (w .0) p);
+    }
+shows-told x (judged.Refused r) c′ d w e p = record { command = e; told = p .bytes; part = p }
+
+pub shown : (x : RefT (List ℕ)) (j : Judged) (c : ℕ) (d : RefT (List ℕ)) → Judges (judge (x .now)) (x .now) j → c ≡ commandIn j → partIn x j d
+    → Shows (judge (x .now)) x (record { command = c; «data» = d })
+shown x j c d q e p = subst (λ (o : Outcome). Shows o x (record { command = c; «data» = d })) (q .told) (shows-told x j c d (q .within) e p)

@@ -1,0 +1,53 @@
+// The checks on a packet, in document 01's order, and the exclusive or of its bytes ("From packet to frame").
+// Judging answers as the definition does: crate frame, specs/Frame.antt.
+// It stands on what the line and the frame layer state.
+ghost use mathlib.Core.Path.{_≡_};
+ghost use Rattle.frame.specs.Frame.{judge};
+ghost use Rattle.frame.specs.Xor.{xorAll};
+ghost use Rattle.frame.specs.Answers.{Judges};
+use crate::AROUND;
+use crate::HEAD;
+use crate::Judged;
+use crate::PacketRefusal;
+
+// The checks on a packet, in their order.
+pub fn judge(packet: &[u8]) -> Judged
+    ensures { λ r. ⌜ Judges (judge (now (packet .entry))) (now (packet .entry)) r ⌝ }
+{
+    let n = packet.len();
+    if line::LIMIT < n {
+        return Judged::Refused(PacketRefusal::TooLong);
+    }
+    if n < AROUND {
+        return Judged::Refused(PacketRefusal::TooShort);
+    }
+    if packet[0] != 0 {
+        return Judged::Refused(PacketRefusal::WrongProtocol);
+    }
+    if (packet[1] as usize) + 2 != n {
+        return Judged::Refused(PacketRefusal::WrongLength);
+    }
+    let last = n - 1;
+    if packet[last] != xor_all(&packet[0..last]) {
+        return Judged::Refused(PacketRefusal::WrongCheck);
+    }
+    let command = (packet[2] as u16) * 256 + (packet[3] as u16);
+    Judged::Frame {
+        command,
+        start: HEAD,
+        len: n - AROUND,
+    }
+}
+
+// The exclusive or of all bytes.
+pub(crate) fn xor_all(bytes: &[u8]) -> u8
+    ensures { λ r. ⌜ r ≡ xorAll (now (bytes .entry)) ⌝ }
+{
+    let mut x = 0;
+    let mut i = 0;
+    while i < bytes.len() {
+        x = x ^ bytes[i];
+        i += 1;
+    }
+    x
+}

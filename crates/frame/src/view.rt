@@ -1,0 +1,68 @@
+// An accepted frame shown as a view of the caller's own bytes, its data neither copied nor moved (document 01, "From packet
+// to frame"). What is shown is the definition's, and the data are that very part of the lent slice: specs/View.antt here and of `frame`.
+// It stands on what the frame layer states and on the checks on a packet.
+ghost use mathlib.Core.Path.{_≡_};
+ghost use Rattle.frame.specs.Frame.{judge};
+ghost use Rattle.frame.specs.Answers.{JudgedWithin};
+ghost use Rattle.frame.specs.Shown.{Shows};
+ghost use Rattle.frame.specs.ShownCode.{commandIn, partIn};
+use crate::Judged;
+
+// A frame's command number and its data, where they lie; of a refused packet, 0 and the empty part at its start. Who must tell
+// such a view from that of the frame 0000 without data asks `checks::judge`.
+pub struct View<'a> {
+    pub command: u16,
+    pub data: &'a [u8],
+}
+
+// The view of a packet.
+pub fn show<'a>(bytes: &'a [u8]) -> View<'a>
+    ensures { λ r. ⌜ Shows (judge (now (bytes .entry))) (bytes .entry) r ⌝ }
+{
+    let judged = crate::checks::judge(bytes);
+    View {
+        command: command_of(judged),
+        data: part_of(bytes, judged),
+    }
+}
+
+// The command number that a view shows.
+pub fn command<'a>(view: View<'a>) -> u16
+    ensures { λ r. ⌜ r ≡ view .entry .command ⌝ }
+{
+    view.command
+}
+
+// The data that a view shows, where they lie.
+pub fn data<'a>(view: View<'a>) -> &'a [u8]
+    ensures { λ r. ⌜ r ≡ view .entry .«data» ⌝ }
+{
+    view.data
+}
+
+fn command_of(judged: Judged) -> u16
+    ensures { λ r. ⌜ r ≡ commandIn judged ⌝ }
+{
+    match judged {
+        Judged::Frame {
+            command,
+            start: _,
+            len: _,
+        } => command,
+        Judged::Refused(_) => 0,
+    }
+}
+
+fn part_of(bytes: &[u8], judged: Judged) -> &[u8]
+    requires { ⌜ JudgedWithin (now bytes) judged ⌝ }
+    ensures { λ r. ⌜ partIn (bytes .entry) judged r ⌝ }
+{
+    match judged {
+        Judged::Frame {
+            command: _,
+            start,
+            len,
+        } => &bytes[start..start + len],
+        Judged::Refused(_) => &bytes[0..0],
+    }
+}

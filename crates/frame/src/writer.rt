@@ -1,0 +1,152 @@
+// The frame layer's writing side: commands with data to wire form (document 01, "From packet to frame").
+// Each call's answer and the room that it leaves are the definition's: specs/Writing.antt of `frame`.
+// With `checks`, `reader` and `view` it is the frame layer; it stands on what that layer and the line layer define, and on the store.
+ghost use mathlib.Core.Path.{_≡_};
+ghost use Prim.Native.Nat.{_+_, _≤_};
+ghost use mathlib.Core.List.{[], _∷_};
+ghost use lib.ListN.{length};
+ghost use Rattle.memory.specs.Wrote.{Wrote};
+ghost use Rattle.frame.specs.Frame.{maxData, headOf, escape, wire};
+ghost use Rattle.frame.specs.Code.{check};
+ghost use Rattle.frame.specs.Writer.{write, writeAt, Writes};
+use crate::DATA;
+use crate::Written;
+use crate::WrittenAt;
+
+// The wire form at the front of the room; the bytes behind it stay.
+pub fn write(room: &mut [u8], command: u16, payload: &[u8]) -> Written
+    ensures { λ r. ⌜ Writes (write (now (room .entry)) command (now (payload .entry))) r (now (room .exit)) ⌝ }
+{
+    if room.len() < crate::ROOM {
+        return Written::ShortRoom;
+    }
+    if DATA < payload.len() {
+        return Written::LongData;
+    }
+    let n = put_wire(room, 0, command, payload);
+    Written::Length(n)
+}
+
+// The wire form from `start` on, in room of any length: it is written whole or not at all.
+pub fn write_at(room: &mut [u8], start: usize, command: u16, payload: &[u8]) -> WrittenAt
+    ensures { λ r. ⌜ Writes (writeAt (now (room .entry)) start command (now (payload .entry))) r (now (room .exit)) ⌝ }
+{
+    if DATA < payload.len() {
+        return WrittenAt::LongData;
+    }
+    if room.len() < start {
+        return WrittenAt::NoFit;
+    }
+    if room.len() - start < wire_len(command, payload) {
+        return WrittenAt::NoFit;
+    }
+    let n = put_wire(room, start, command, payload);
+    WrittenAt::UpTo(n)
+}
+
+// How long the wire form is.
+fn wire_len(command: u16, payload: &[u8]) -> usize
+    requires { ⌜ length (now payload) ≤ maxData ⌝ }
+    ensures { λ r. ⌜ r ≡ length (wire command (now (payload .entry))) ⌝ }
+{
+    let head = head_of(command, payload.len());
+    let check = [check_of(command, payload)];
+    escaped_len(&head) + escaped_len(payload) + escaped_len(&check) + 2
+}
+
+// The wire form from `start` on, where it fits; the answer is the place behind it.
+fn put_wire(room: &mut [u8], start: usize, command: u16, payload: &[u8]) -> usize
+    requires { ⌜ (length (now payload) ≤ maxData) × (start + length (wire command (now payload)) ≤ length (now room)) ⌝ }
+    ensures { λ r. ⌜ Wrote (now (room .entry)) start (wire command (now (payload .entry))) (now (room .exit)) r ⌝ }
+{
+    let head = head_of(command, payload.len());
+    let check = [check_of(command, payload)];
+    room[start] = line::END;
+    let a = put_all(room, start + 1, &head);
+    let b = put_all(room, a, payload);
+    let e = put_all(room, b, &check);
+    room[e] = line::END;
+    e + 1
+}
+
+// The check byte: the exclusive or of all bytes before it.
+fn check_of(command: u16, payload: &[u8]) -> u8
+    requires { ⌜ length (now payload) ≤ maxData ⌝ }
+    ensures { λ r. ⌜ r ≡ check command (now (payload .entry)) ⌝ }
+{
+    let head = head_of(command, payload.len());
+    crate::checks::xor_all(&head) ^ crate::checks::xor_all(payload)
+}
+
+// Protocol byte, length and command of a frame with n data bytes.
+fn head_of(command: u16, n: usize) -> [u8; crate::HEAD]
+    requires { ⌜ n ≤ maxData ⌝ }
+    ensures { λ r. ⌜ r ≡ headOf command n ⌝ }
+{
+    [
+        0,
+        (n + 3) as u8,
+        (command / 256) as u8,
+        (command % 256) as u8,
+    ]
+}
+
+// How many bytes these are, escaped.
+fn escaped_len(bytes: &[u8]) -> usize
+    requires { ⌜ length (now bytes) ≤ maxData ⌝ }
+    ensures { λ r. ⌜ r ≡ length (escape (now (bytes .entry))) ⌝ }
+{
+    let mut n = 0;
+    let mut i = 0;
+    while i < bytes.len() {
+        n += width(bytes[i]);
+        i += 1;
+    }
+    n
+}
+
+fn width(b: u8) -> usize
+    ensures { λ r. ⌜ r ≡ length (escape (b ∷ [])) ⌝ }
+{
+    if b == line::END {
+        return 2;
+    }
+    if b == line::ESC {
+        return 2;
+    }
+    1
+}
+
+// Bytes, escaped, from `start` on; the answer is the place behind them.
+fn put_all(room: &mut [u8], start: usize, bytes: &[u8]) -> usize
+    requires { ⌜ start + length (escape (now bytes)) ≤ length (now room) ⌝ }
+    ensures { λ r. ⌜ Wrote (now (room .entry)) start (escape (now (bytes .entry))) (now (room .exit)) r ⌝ }
+{
+    let mut at = start;
+    let mut i = 0;
+    while i < bytes.len() {
+        let b = bytes[i];
+        at = put(room, at, b);
+        i += 1;
+    }
+    at
+}
+
+// One byte, escaped.
+fn put(room: &mut [u8], at: usize, b: u8) -> usize
+    requires { ⌜ at + length (escape (b ∷ [])) ≤ length (now room) ⌝ }
+    ensures { λ r. ⌜ Wrote (now (room .entry)) at (escape (b ∷ [])) (now (room .exit)) r ⌝ }
+{
+    if b == line::END {
+        room[at] = line::ESC;
+        room[at + 1] = line::ESC_END;
+        return at + 2;
+    }
+    if b == line::ESC {
+        room[at] = line::ESC;
+        room[at + 1] = line::ESC_ESC;
+        return at + 2;
+    }
+    room[at] = b;
+    at + 1
+}

@@ -1,0 +1,118 @@
+// The host's calls: the hub before any start, start, enrol, finish a session (document 01, "What the commands do").
+// State goes in and out by value; the node table and the reply room are lent. Each call's promise is the rule's in answer, hub,
+// table and every byte of the room, refusals included: crate rules, specs/Hub.antt, specs/Promises.antt.
+// It stands on the node table's and the sessions' code, on replies and on the password's code.
+ghost use Prim.Native.Nat.{_≤_};
+ghost use mathlib.Core.Path.{_≡_};
+ghost use lib.ListN.{length};
+ghost use Rattle.frame.specs.Writer.{minRoom};
+ghost use Rattle.rules.specs.RoomReplies.{Replied};
+ghost use Rattle.rules.specs.Hub.{freshHub, firstHub, notice};
+ghost use Rattle.rules.specs.Promises.{Starts, Enrols, Finishes};
+ghost use Rattle.rules.specs.Answers.{startedOf, enrolledOf, finishedOf};
+use rules::CallAnswer;
+use rules::CallRefusal;
+use rules::FinishAnswer;
+use rules::Finished;
+use rules::Hub;
+use rules::Started;
+use sessions::Owner;
+
+// The hub before any start.
+pub fn first() -> Hub
+    ensures { λ r. ⌜ r ≡ firstHub ⌝ }
+{
+    fresh([0u8; rules::PASSWORD])
+}
+
+// A hub with a password, nobody logged in, no session.
+fn fresh(password: [u8; rules::PASSWORD]) -> Hub
+    ensures { λ r. ⌜ r ≡ freshHub password ⌝ }
+{
+    let slots = sessions::none();
+    Hub {
+        password: password,
+        logins: [false; rules::LINES],
+        slots: slots,
+    }
+}
+
+// Starts the hub anew: the table is zeroed.
+pub fn start(hub: Hub, table: &mut [u8], password: &[u8]) -> Started
+    ensures { λ r. ⌜ Starts hub (now (table .entry)) (now (password .entry)) (startedOf r (now (table .exit))) ⌝ }
+{
+    if table.len() != nodes::TABLE {
+        return Started {
+            answer: CallAnswer::Refused(CallRefusal::WrongTable),
+            hub: hub,
+        };
+    }
+    if password.len() != rules::PASSWORD {
+        return Started {
+            answer: CallAnswer::Refused(CallRefusal::WrongPassword),
+            hub: hub,
+        };
+    }
+    nodes::empty(table);
+    let next = fresh(requests::passwords::password_at(password, 0));
+    Started {
+        answer: CallAnswer::Done,
+        hub: next,
+    }
+}
+
+// A node comes into use, with its type.
+pub fn enrol(table: &mut [u8], node: u8, kind: u16) -> CallAnswer
+    ensures { λ r. ⌜ Enrols (now (table .entry)) node kind (enrolledOf r (now (table .exit))) ⌝ }
+{
+    if table.len() != nodes::TABLE {
+        return CallAnswer::Refused(CallRefusal::WrongTable);
+    }
+    if nodes::NODES <= node as usize {
+        return CallAnswer::Refused(CallRefusal::WrongNode);
+    }
+    if nodes::in_use(table, node as usize) {
+        return CallAnswer::Refused(CallRefusal::NodeInUse);
+    }
+    nodes::enrol(table, node, kind);
+    CallAnswer::Done
+}
+
+// A session is finished: frame 0304 with its number goes to its line.
+pub fn finish(hub: Hub, session: u16, room: &mut [u8]) -> Finished
+    ensures { λ r. ⌜ Finishes hub session (now (room .entry)) (finishedOf r (now (room .exit))) ⌝ }
+{
+    if room.len() < frame::ROOM {
+        return Finished {
+            answer: FinishAnswer::Refused(CallRefusal::ShortRoom),
+            hub: hub,
+        };
+    }
+    let opened = hub.slots;
+    let ended = sessions::finish(opened, session);
+    let told = ended.told;
+    let slots = ended.slots;
+    match told {
+        Owner::NotOpen => Finished {
+            answer: FinishAnswer::Refused(CallRefusal::NotOpen),
+            hub: hub,
+        },
+        Owner::Line(line) => {
+            let len = notice(room, session);
+            let next = requests::passwords::with_slots(hub, slots);
+            Finished {
+                answer: FinishAnswer::Finished { line, len },
+                hub: next,
+            }
+        }
+    }
+}
+
+// Frame 0304 with a session's number.
+fn notice(room: &mut [u8], session: u16) -> usize
+    requires { ⌜ minRoom ≤ length (now room) ⌝ }
+    ensures { λ r. ⌜ Replied (notice session) (now (room .entry)) r (now (room .exit)) ⌝ }
+{
+    let bytes = [(session / 256) as u8, (session % 256) as u8];
+    requests::replies::reply(room, 0x0304, &bytes)
+}

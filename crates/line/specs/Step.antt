@@ -1,0 +1,75 @@
+-- What the functions behind the reader answer.
+use Prim.Native.Nat.{ℕ, _+_, _≤_, _<_}
+use mathlib.Core.Path.{_≡_}
+use mathlib.Core.List.{List, [], _∷_, _++_}
+use mathlib.Core.Option.{Option, none}
+use lib.ListN.{length, take, drop}
+use Rattle.line.specs.declared.Mode.{Mode}
+use Rattle.line.specs.declared.Mode.the-variants.{Plain, Escaped, Skipping}
+use Rattle.line.specs.declared.PacketOutcome.{PacketOutcome as Given}
+use Rattle.line.specs.declared.PacketOutcome.the-variants.{Nothing, Packet, Refused}
+use Rattle.line.specs.declared.Place.{Place}
+use Rattle.line.specs.declared.Reading.{Reading}
+use Rattle.line.specs.declared.PacketAt.{PacketAt}
+use Rattle.line.specs.declared.Action.{Action}
+use Rattle.line.specs.declared.Action.the-variants.{Store, Keep, Skip, Give}
+use Rattle.line.specs.Scan.{ahead}
+use Rattle.line.specs.Reader.{limit, read, State, plain, skipping, emptied, Outcome, decoded, close, step}
+use Rattle.line.specs.Answers.{at, takenAs, told, Clear}
+
+-- `place_of`: where a reading stands, apart from its bytes
+abbrev pub placeOf : Reading → Place
+placeOf r = record { count = r .count; mode = r .mode }
+
+-- `taken_at`: the state that a record of any bytes is taken as
+pub record Takes (p r : Place) : Type 0 where
+  pub state : (bs : List ℕ) → at (take (r .count) bs) (r .mode) ≡ takenAs bs (p .count) (p .mode)
+  pub within : r .count ≤ limit
+  pub clear : Clear (r .mode) (r .count)
+
+-- `told_at`: an answer from its parts
+abbrev pub toldAt : ℕ → Given → ℕ → Mode → PacketAt
+toldAt n o k m = record { used = n; outcome = o; place = record { count = k; mode = m } }
+
+-- `plain_run`: from the byte i on, k more bytes are read and stored, and the rest is as before
+pub record Runs (m : Mode) (bs : List ℕ) (n : ℕ) (w : List ℕ) (i : ℕ) (cs : List ℕ) (k : ℕ) : Type 0 where
+  pub read : read (at (take n bs) m) (drop i w) ≡ ahead k (read (at (take (n + k) cs) m) (drop (i + k) w))
+  pub held : n + k ≤ limit
+  pub within : i + k ≤ length w
+  pub full : length cs ≡ limit
+  pub clear : Clear m n → Clear m (n + k)
+
+-- what an action makes of the bytes held
+abbrev pub acted : List ℕ → Action → State × Option Outcome
+acted h (Store v) = (plain (h ++ v ∷ []), none)
+acted h (Keep m) = (at h m, none)
+acted h (Skip f) = (skipping f, none)
+acted h (Give o) = (emptied, told o h)
+
+-- a byte is stored only where there is room, and what is told lies within the bytes held
+abbrev pub Fits : ℕ → Action → Type 0
+Fits n (Store v) = n < limit
+Fits n (Keep Plain) = Unit {0}
+Fits n (Keep Escaped) = Unit {0}
+Fits n (Keep (Skipping f)) = ⊥
+Fits n (Skip f) = Unit {0}
+Fits n (Give Nothing) = ⊥
+Fits n (Give (Packet k)) = k ≤ n
+Fits n (Give (Refused f)) = Unit {0}
+
+-- the action r does what x does, whatever n bytes are held
+pub record Acts (n : ℕ) (x : List ℕ → State × Option Outcome) (r : Action) : Type 0 where
+  pub act : (h : List ℕ) → length h ≡ n → acted h r ≡ x h
+  pub fits : Fits n r
+
+-- `decide`: the definition's step
+abbrev pub stepping : Mode → ℕ → List ℕ → State × Option Outcome
+stepping m b h = step (at h m) b
+
+-- `close`: an END among whole bytes
+abbrev pub closing : List ℕ → State × Option Outcome
+closing h = (emptied, close (plain h))
+
+-- `store`: one more decoded byte
+abbrev pub storing : ℕ → List ℕ → State × Option Outcome
+storing b h = (decoded h b, none)

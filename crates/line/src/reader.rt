@@ -1,0 +1,139 @@
+// The line reader: wire bytes in, one outcome at a time out (document 01, "From wire to packet").
+// Its answer is the definition's in bytes used, outcome and state: crate line, specs/Reader.antt, specs/Answers.antt.
+// It stands on what the line layer states and on what one byte asks for.
+ghost use Prim.Native.Nat.{_≤_};
+ghost use mathlib.Core.Path.{_≡_};
+ghost use lib.ListN.{length};
+ghost use Rattle.line.specs.declared.Mode.the-variants.{Plain};
+ghost use Rattle.line.specs.Reader.{limit, read};
+ghost use Rattle.line.specs.Answers.{emptiedReading, taken, takenAs, answerOf, Answers};
+ghost use Rattle.line.specs.Step.{toldAt, Runs};
+use crate::Action;
+use crate::END;
+use crate::ESC;
+use crate::LIMIT;
+use crate::Mode;
+use crate::PacketAnswer;
+use crate::PacketAt;
+use crate::PacketOutcome;
+use crate::Place;
+use crate::Reading;
+
+// A reading between packets.
+pub fn emptied() -> Reading
+    ensures { λ r. ⌜ r ≡ emptiedReading ⌝ }
+{
+    Reading {
+        bytes: [0u8; LIMIT],
+        count: 0,
+        mode: Mode::Plain,
+    }
+}
+
+// Reads to the end of the first outcome or of the bytes.
+pub fn read(reading: Reading, wire: &[u8]) -> PacketAnswer
+    ensures { λ r. ⌜ Answers (read (taken reading) (now (wire .entry))) r ⌝ }
+{
+    let mut bytes = reading.bytes;
+    let told = read_in(&mut bytes, crate::step::place_of(reading), wire);
+    answer_of(bytes, told)
+}
+
+// The same on a reading whose bytes stay where they lie: nothing is copied.
+pub fn read_in(bytes: &mut [u8; LIMIT], place: Place, wire: &[u8]) -> PacketAt
+    ensures { λ r. ⌜ Answers (read (takenAs (now (bytes .entry)) (place .count) (place .mode)) (now (wire .entry))) (answerOf (now (bytes .exit)) r) ⌝ }
+{
+    let first = crate::step::taken_at(place);
+    let mut count = first.count;
+    let mut mode = first.mode;
+    let mut i = 0;
+    while i < wire.len() {
+        let run = plain_run(mode, bytes, count, wire, i);
+        count += run;
+        i += run;
+        if wire.len() <= i {
+            return told_at(i, PacketOutcome::Nothing, count, mode);
+        }
+        let b = wire[i];
+        i += 1;
+        match crate::step::decide(mode, count, b) {
+            Action::Store(v) => {
+                bytes[count] = v;
+                count += 1;
+                mode = Mode::Plain;
+            }
+            Action::Keep(m) => {
+                mode = m;
+            }
+            Action::Skip(f) => {
+                count = 0;
+                mode = Mode::Skipping(f);
+            }
+            Action::Give(outcome) => {
+                return told_at(i, outcome, 0, Mode::Plain);
+            }
+        }
+    }
+    told_at(i, PacketOutcome::Nothing, count, mode)
+}
+
+// An answer with its bytes.
+fn answer_of(bytes: [u8; LIMIT], told: PacketAt) -> PacketAnswer
+    ensures { λ r. ⌜ r ≡ answerOf bytes told ⌝ }
+{
+    let used = told.used;
+    let outcome = told.outcome;
+    let place = told.place;
+    let count = place.count;
+    let mode = place.mode;
+    PacketAnswer {
+        used: used,
+        outcome: outcome,
+        reading: Reading { bytes, count, mode },
+    }
+}
+
+// An answer from its parts.
+fn told_at(used: usize, outcome: PacketOutcome, count: usize, mode: Mode) -> PacketAt
+    ensures { λ r. ⌜ r ≡ toldAt used outcome count mode ⌝ }
+{
+    PacketAt {
+        used: used,
+        outcome: outcome,
+        place: Place { count, mode },
+    }
+}
+
+// Stores the bytes from `at` on that go as they are, in a mode that takes such, and answers how many.
+fn plain_run(mode: Mode, bytes: &mut [u8], count: usize, wire: &[u8], at: usize) -> usize
+    requires { ⌜ (length (now bytes) ≡ limit) × (count ≤ limit) × (at ≤ length (now wire)) ⌝ }
+    ensures { λ r. ⌜ Runs mode (now (bytes .entry)) count (now (wire .entry)) at (now (bytes .exit)) r ⌝ }
+{
+    match mode {
+        Mode::Plain => copy_run(bytes, count, wire, at),
+        Mode::Escaped => 0,
+        Mode::Skipping(_) => 0,
+    }
+}
+
+fn copy_run(bytes: &mut [u8], count: usize, wire: &[u8], at: usize) -> usize
+    requires { ⌜ (length (now bytes) ≡ limit) × (count ≤ limit) × (at ≤ length (now wire)) ⌝ }
+    ensures { λ r. ⌜ Runs Plain (now (bytes .entry)) count (now (wire .entry)) at (now (bytes .exit)) r ⌝ }
+{
+    let mut run = 0;
+    while at + run < wire.len() {
+        let b = wire[at + run];
+        if b == END {
+            return run;
+        }
+        if b == ESC {
+            return run;
+        }
+        if LIMIT <= count + run {
+            return run;
+        }
+        bytes[count + run] = b;
+        run += 1;
+    }
+    run
+}

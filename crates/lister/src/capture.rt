@@ -1,0 +1,60 @@
+// The lines of a capture's outcomes, written part by part.
+// What is written for some bytes, and how the reading stands after them, is the definition's: crate lister, specs/Listing.antt,
+// specs/Lists.antt. It stands on what the frame layer, the listing and the text lines state.
+ghost use Prim.Native.Nat.{_≤_};
+ghost use mathlib.Core.Path.{_≡_};
+ghost use lib.ListN.{length};
+ghost use Rattle.frame.specs.Reader.{taken};
+ghost use Rattle.lister.specs.Lists.{Lists, listedOf};
+use crate::Listed;
+use line::Place;
+use line::Reading;
+
+// No line is longer: with that much room a call goes on.
+const LINE: usize = crate::lines::LINE;
+
+// Writes the lines of the outcomes of `wire` to the front of `out`, as long as there is room for any line.
+pub fn list(reading: Reading, left: u64, wire: &[u8], out: &mut [u8]) -> Listed
+    ensures { λ r. ⌜ Lists (taken reading) left (now (wire .entry)) (now (out .entry)) (now (out .exit)) r ⌝ }
+{
+    let mut bytes = reading.bytes;
+    let mut place = line::taken_place(reading);
+    let mut at = 0;
+    let mut written = 0;
+    while at < wire.len() {
+        if out.len() - written < LINE {
+            return answer(bytes, place, left, wire, at, written);
+        }
+        let told = frame::read_in(&mut bytes, place, &wire[at..]);
+        let used = told.used;
+        let outcome = told.outcome;
+        let after = told.place;
+        written = crate::outcome::outcome_line(out, written, outcome);
+        place = after;
+        at += used;
+    }
+    answer(bytes, place, left, wire, at, written)
+}
+
+// The answer where the bytes before `at` were used.
+fn answer(
+    bytes: [u8; line::LIMIT],
+    place: Place,
+    left: u64,
+    wire: &[u8],
+    at: usize,
+    written: usize,
+) -> Listed
+    requires { ⌜ at ≤ length (now wire) ⌝ }
+    ensures { λ r. ⌜ r ≡ listedOf bytes place left (now (wire .entry)) at written ⌝ }
+{
+    let count = place.count;
+    let mode = place.mode;
+    let since = crate::left::left_after(left, &wire[0..at]);
+    Listed {
+        used: at,
+        written: written,
+        reading: Reading { bytes, count, mode },
+        left: since,
+    }
+}

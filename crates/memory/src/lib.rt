@@ -1,0 +1,7 @@
+mod octets;
+mod store;
+
+pub use octets::byte;
+pub use octets::is_same;
+pub use store::copy;
+pub use store::fill;

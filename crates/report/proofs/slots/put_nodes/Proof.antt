@@ -1,0 +1,63 @@
+use Prim.Native.Nat.{_-_, _≤_}
+use mathlib.Core.Path.{_≡_}
+use native.Mathlib.Numerals.{add-one}
+use native.Mathlib.Omega.{arith}
+use Rattle.memory.specs.Wrote.{Wrote}
+use Rattle.memory.specs.WroteLaws.{none, then, kept}
+use Rattle.report.specs.State.{targetCount, nodesBelow}
+use Rattle.report.specs.SlotLaws.{nodesBelow-short}
+use Rattle.report.proofs.slots.put_nodes.Statement.{statement}
+use Rattle.report.proofs.slots.put_nodes.Tie as tie
+
+-- The marked nodes below `node` are stored, and nothing else is.
+abbrev Inv-loop : tie.InvT-loop
+Inv-loop out₀ at nodes place₀ node₀ out place node = (node ≤ targetCount) × Wrote out₀ at (nodesBelow node nodes) out place
+
+abbrev μ-loop : tie.MeasureT-loop
+μ-loop out₀ at nodes place₀ node₀ out place node = targetCount - node
+
+loop-holds : tie.Need-loop-holds Inv-loop μ-loop
+unfolding nodesBelow
+loop-holds c = (omega arith, none _ _)
+
+array-read-node-word : tie.Need-array-read-node-word Inv-loop μ-loop
+array-read-node-word c = omega arith
+
+node-word-requires : tie.Need-node-word-requires Inv-loop μ-loop
+node-word-requires c κs =
+    let l = c .before .before .loop in
+    (omega arith, omega (arith, c .before .before .before .before .pre, l .inv .1 .place, kept (l .inv .1), nodesBelow-short (l .node) (c .before .before .before .before .args .t3) (l .inv .0)))
+
+add-node : tie.Need-add-node Inv-loop μ-loop
+add-node c = omega arith
+
+loop-less : tie.Need-loop-less Inv-loop μ-loop
+loop-less c = omega arith
+
+loop-again : tie.Need-loop-again Inv-loop μ-loop
+unfolding nodesBelow
+loop-again c = (omega arith, rw add-one (then (c .before .before .before .before .before .loop .inv .1) (c .before .before .node-word .ensures)))
+
+same-length : tie.Need-same-length Inv-loop μ-loop
+same-length c = kept (c .before .loop .inv .1)
+
+returns : tie.Need-returns Inv-loop μ-loop
+returns c =
+    let l = c .before .loop in
+    let e : l .node ≡ targetCount = omega arith in
+    rw e at (l .inv .1)
+
+pub put-nodes-spec : {M : Type 1} → statement M
+put-nodes-spec =
+    tie.close
+    (tie.spec
+    Inv-loop
+    μ-loop
+    loop-holds
+    array-read-node-word
+    node-word-requires
+    add-node
+    loop-less
+    loop-again
+    same-length
+    returns)

@@ -1,0 +1,59 @@
+-- The state as `show` writes it, as bytes.
+use Prim.Native.Nat.{ℕ, zero, suc}
+use mathlib.Core.List.{List, [], _∷_, _++_}
+use mathlib.Core.Bool.{Bool, true, false}
+use lib.ListN.{getD}
+use Rattle.text.specs.Text.{ascii, decimal, hex4}
+use Rattle.text.specs.Bytes.{bytesWord}
+use Rattle.report.specs.declared.Mode.{Mode}
+use Rattle.report.specs.declared.Mode.the-variants as mode
+
+-- room for a slot's line
+abbrev pub slotSize : ℕ
+slotSize = 1024
+
+-- logged in or not: the digit 1 or 0
+unfoldable pub flag : Bool → ℕ
+flag true = 49
+flag false = 48
+
+-- the logins of lines 0 to 3
+unfoldable pub loginLine : List Bool → List ℕ
+loginLine logins =
+    ascii "login " ++ (flag (getD logins 0 false) ∷ flag (getD logins 1 false) ∷ flag (getD logins 2 false) ∷ flag (getD logins 3 false) ∷ []) ++ ascii "\n"
+
+-- a session's nodes are 0 to 199
+abbrev pub targetCount : ℕ
+targetCount = 200
+
+-- a node, where it is marked
+unfoldable pub nodeWord : ℕ → Bool → List ℕ
+nodeWord node true = ascii " " ++ decimal node
+nodeWord node false = []
+
+-- the marked nodes below n, ascending
+unfoldable pub nodesBelow : ℕ → List Bool → List ℕ
+nodesBelow zero nodes = []
+nodesBelow (suc n) nodes = nodesBelow n nodes ++ nodeWord n (getD nodes n false)
+
+-- an open slot: the session's number, its line and its nodes
+unfoldable pub slotLine : ℕ → ℕ → ℕ → List Bool → List ℕ
+slotLine slot session line nodes =
+    ascii "slot " ++ decimal slot ++ ascii " " ++ hex4 session ++ ascii " " ++ decimal line ++ nodesBelow targetCount nodes ++ ascii "\n"
+
+-- a node's record
+unfoldable pub nodeLine : ℕ → List ℕ → List ℕ
+nodeLine node fields = ascii "node " ++ decimal node ++ ascii " " ++ bytesWord fields ++ ascii "\n"
+
+unfoldable pub modeWord : Mode → List ℕ
+modeWord mode.Plain = ascii "plain"
+modeWord mode.Escaped = ascii "escaped"
+modeWord mode.Skip1 = ascii "skip1"
+modeWord mode.Skip2 = ascii "skip2"
+
+-- a line's reading: how it stands, and the bytes held
+unfoldable pub readingLine : ℕ → Mode → List ℕ → List ℕ
+readingLine line m held = ascii "line " ++ decimal line ++ (ascii " " ++ modeWord m ++ ascii " ") ++ bytesWord held ++ ascii "\n"
+
+unfoldable pub endLine : List ℕ
+endLine = ascii "end\n"

@@ -1,0 +1,53 @@
+-- The state's lines at some values: each line once.
+use mathlib.Core.Path.{_≡_, refl}
+use mathlib.Core.List.{List, [], _∷_}
+use mathlib.Core.Bool.{Bool, true, false}
+use lib.ListN.{set, replicate}
+use Rattle.text.specs.Text.{ascii, digit, decimalIn, decimal}
+use Rattle.text.specs.Bytes.{hexPairs, bytesWord}
+use Rattle.report.specs.State.{flag, loginLine, targetCount, nodeWord, nodesBelow, slotLine, nodeLine, modeWord, readingLine, endLine}
+use Rattle.report.specs.declared.Mode.the-variants as mode
+
+login-some : loginLine (true ∷ false ∷ false ∷ true ∷ []) ≡ ascii "login 1001\n"
+unfolding ascii flag loginLine
+login-some = refl
+
+login-second : loginLine (false ∷ true ∷ false ∷ false ∷ []) ≡ ascii "login 0100\n"
+unfolding ascii flag loginLine
+login-second = refl
+
+-- the first node, the last and one between
+abbrev marks : List Bool
+marks = set (set (set (replicate targetCount false) 7 true) 199 true) 0 true
+
+slot-nodes : slotLine 7 0x01A2 3 marks ≡ ascii "slot 7 01A2 3 0 7 199\n"
+unfolding ascii digit decimalIn decimal nodeWord nodesBelow slotLine
+slot-nodes = refl
+
+slot-none : slotLine 0 0xFFFF 1 (replicate targetCount false) ≡ ascii "slot 0 FFFF 1\n"
+unfolding ascii digit decimalIn decimal nodeWord nodesBelow slotLine
+slot-none = refl
+
+node-last : nodeLine 199 (0x01 ∷ 0x00 ∷ 0x4F ∷ []) ≡ ascii "node 199 01004F\n"
+unfolding ascii digit decimalIn decimal hexPairs bytesWord nodeLine
+node-last = refl
+
+reading-plain : readingLine 0 mode.Plain (0x00 ∷ 0x03 ∷ 0xFE ∷ []) ≡ ascii "line 0 plain 0003FE\n"
+unfolding ascii digit decimalIn decimal hexPairs bytesWord modeWord readingLine
+reading-plain = refl
+
+reading-escaped : readingLine 1 mode.Escaped [] ≡ ascii "line 1 escaped -\n"
+unfolding ascii digit decimalIn decimal hexPairs bytesWord modeWord readingLine
+reading-escaped = refl
+
+reading-wrong-escape : readingLine 2 mode.Skip1 [] ≡ ascii "line 2 skip1 -\n"
+unfolding ascii digit decimalIn decimal hexPairs bytesWord modeWord readingLine
+reading-wrong-escape = refl
+
+reading-too-long : readingLine 3 mode.Skip2 [] ≡ ascii "line 3 skip2 -\n"
+unfolding ascii digit decimalIn decimal hexPairs bytesWord modeWord readingLine
+reading-too-long = refl
+
+end : endLine ≡ ascii "end\n"
+unfolding ascii endLine
+end = refl

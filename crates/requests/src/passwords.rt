@@ -1,0 +1,94 @@
+// The hub's state: password enter and change, and the sessions put back (document 01, "What the commands do").
+// Answers and hubs are the definition's: crate rules, specs/Hub.antt. It stands on the hub's rules, the lines' logins and
+// lent bytes, compared and stored.
+ghost use mathlib.Core.Path.{_≡_};
+ghost use Rattle.rules.specs.Hub.{enter, change, withSlots};
+ghost use Rattle.requests.specs.Entering.{Enters};
+ghost use Rattle.rules.specs.RoomReplies.{passwordAt};
+use rules::Hub;
+use sessions::Slot;
+
+// What a password request answers, and the hub that it leaves.
+pub struct Entered {
+    pub status: u8,
+    pub hub: Hub,
+}
+
+// The statuses of the password requests.
+const CORRECT: u8 = 0;
+
+const INCORRECT: u8 = 1;
+
+// Password enter, on a line.
+pub fn enter(hub: Hub, line: u8, given: [u8; rules::PASSWORD]) -> Entered
+    ensures { λ r. ⌜ Enters (enter hub line given) r ⌝ }
+{
+    let password = hub.password;
+    if !memory::is_same(&given, &password) {
+        return Entered {
+            status: INCORRECT,
+            hub: hub,
+        };
+    }
+    let before = hub.logins;
+    let logins = crate::logins::with_login(before, line, true);
+    let slots = hub.slots;
+    let next = Hub {
+        password: password,
+        logins: logins,
+        slots: slots,
+    };
+    Entered {
+        status: CORRECT,
+        hub: next,
+    }
+}
+
+// Password change.
+pub fn change(hub: Hub, old: [u8; rules::PASSWORD], new: [u8; rules::PASSWORD]) -> Entered
+    ensures { λ r. ⌜ Enters (change hub old new) r ⌝ }
+{
+    let password = hub.password;
+    if !memory::is_same(&old, &password) {
+        return Entered {
+            status: INCORRECT,
+            hub: hub,
+        };
+    }
+    let logins = hub.logins;
+    let slots = hub.slots;
+    let next = Hub {
+        password: new,
+        logins: logins,
+        slots: slots,
+    };
+    Entered {
+        status: CORRECT,
+        hub: next,
+    }
+}
+
+// The hub with other sessions.
+pub fn with_slots(hub: Hub, slots: [Slot; sessions::SLOTS]) -> Hub
+    ensures { λ r. ⌜ r ≡ withSlots hub slots ⌝ }
+{
+    let password = hub.password;
+    let logins = hub.logins;
+    Hub {
+        password: password,
+        logins: logins,
+        slots: slots,
+    }
+}
+
+// A password in a request's data, from the place `at` on; bytes that are missing count as 0.
+pub fn password_at(payload: &[u8], at: usize) -> [u8; rules::PASSWORD]
+    ensures { λ r. ⌜ r ≡ passwordAt (now (payload .entry)) at ⌝ }
+{
+    let mut out = [0u8; rules::PASSWORD];
+    if payload.len() <= at {
+        return out;
+    }
+    memory::copy(&mut out, 0, &payload[at..]);
+    out
+}

@@ -1,0 +1,77 @@
+// Whether what a mode send asks for is legal (document 01, mode send, status 5).
+// The answer is the definition's: crate sessions, specs/Sessions.antt. It stands on the sessions' rules and the node table.
+ghost use mathlib.Core.Path.{_≡_};
+ghost use mathlib.Core.List.{[]};
+ghost use mathlib.Core.Bool.{not, _&&_};
+ghost use lib.Dec.{ltb};
+ghost use Rattle.nodes.specs.Table.{inUse};
+ghost use Rattle.sessions.specs.Search.{member};
+ghost use Rattle.sessions.specs.Sessions.{targetCount, targetsLegal, isLegal};
+use crate::ModeSend;
+
+// Whether count, indices, priority, lock and originator are all allowed.
+pub(crate) fn is_legal(table: &[u8], request: ModeSend) -> bool
+    ensures { λ r. ⌜ r ≡ isLegal (now (table .entry)) request ⌝ }
+{
+    let count = request.count as usize;
+    if count < 1 {
+        return false;
+    }
+    if crate::INDICES < count {
+        return false;
+    }
+    let indices = request.indices;
+    if !targets_legal(table, &indices[..count]) {
+        return false;
+    }
+    if crate::MAX_PRIORITY < request.priority {
+        return false;
+    }
+    if crate::MAX_LOCK < request.lock {
+        return false;
+    }
+    let known = ORIGINATORS;
+    is_member(&known, request.originator)
+}
+
+// Whether each index is a node in use that no index before it names.
+fn targets_legal(table: &[u8], indices: &[u8]) -> bool
+    ensures { λ r. ⌜ r ≡ targetsLegal (now (table .entry)) [] (now (indices .entry)) ⌝ }
+{
+    let mut i = 0;
+    while i < indices.len() {
+        if !is_target(table, &indices[..i], indices[i]) {
+            return false;
+        }
+        i += 1;
+    }
+    true
+}
+
+fn is_target(table: &[u8], seen: &[u8], index: u8) -> bool
+    ensures { λ r. ⌜ r ≡ (ltb index targetCount && (inUse (now (table .entry)) index && not (member index (now (seen .entry))))) ⌝ }
+{
+    let node = index as usize;
+    if crate::TARGETS <= node {
+        return false;
+    }
+    if !nodes::in_use(table, node) {
+        return false;
+    }
+    !is_member(seen, index)
+}
+
+fn is_member(bytes: &[u8], value: u8) -> bool
+    ensures { λ r. ⌜ r ≡ member value (now (bytes .entry)) ⌝ }
+{
+    let mut i = 0;
+    while i < bytes.len() {
+        if value == bytes[i] {
+            return true;
+        }
+        i += 1;
+    }
+    false
+}
+
+const ORIGINATORS: [u8; 10] = [1, 2, 3, 5, 8, 9, 11, 12, 13, 255];

@@ -1,0 +1,47 @@
+use Rattle.transcript.specs.Replies.{callLine}
+use borrow.Author.Needs.{needs}
+use Rattle.transcript.proofs.answers.call_line.Statement.{statement}
+use Rattle.transcript.proofs.answers.call_line.Tie as tie
+
+enum-told : tie.Need-enum-told
+enum-told c = search needs
+
+done-line-requires : tie.Need-done-line-requires
+done-line-requires c κs = search needs
+
+enum-known-answer : tie.Need-enum-known-answer
+enum-known-answer c = search needs
+
+number-of-requires : tie.Need-number-of-requires
+number-of-requires c κs = search needs
+
+refused-line-requires : tie.Need-refused-line-requires
+refused-line-requires c κs = search needs
+
+same-length : tie.Need-same-length
+same-length c = search needs
+
+returns : tie.Need-returns
+unfolding callLine
+returns c = rw (c .before .before .before .before .enum-told .given .1) (c .before .before .done-line .ensures)
+
+same-length-2 : tie.Need-same-length-2
+same-length-2 c = search needs
+
+returns-2 : tie.Need-returns-2
+unfolding callLine
+returns-2 c = rw (c .before .before .before .before .before .before .answer .given .1, ← c .before .before .before .number-of .ensures) (c .before .before .refused-line .ensures)
+
+pub call-line-spec : {M : Type 1} → statement M
+call-line-spec =
+    tie.close
+    (tie.spec
+    enum-told
+    done-line-requires
+    enum-known-answer
+    number-of-requires
+    refused-line-requires
+    same-length
+    returns
+    same-length-2
+    returns-2)

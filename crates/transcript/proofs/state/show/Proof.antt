@@ -1,0 +1,46 @@
+use Rattle.transcript.specs.LinesLaws.{all-one, all-then}
+use Rattle.transcript.specs.State.{stateLines}
+use borrow.Author.Needs.{needs}
+use Rattle.transcript.proofs.state.show.Statement.{statement}
+use Rattle.transcript.proofs.state.show.Tie as tie
+
+login-line-requires : tie.Need-login-line-requires
+login-line-requires c κs = search needs
+
+show-slots-requires : tie.Need-show-slots-requires
+show-slots-requires c κs = search needs
+
+show-nodes-requires : tie.Need-show-nodes-requires
+show-nodes-requires c κs = search needs
+
+show-readings-requires : tie.Need-show-readings-requires
+show-readings-requires c κs = search needs
+
+end-line-requires : tie.Need-end-line-requires
+end-line-requires c κs = search needs
+
+same-length : tie.Need-same-length
+same-length c = search needs
+
+returns : tie.Need-returns
+unfolding stateLines
+returns c =
+    all-then _ _ _ _
+    (all-then _ _ _ _
+    (all-then _ _ _ _
+    (all-then _ _ _ _ (all-one _ _ _ (c .before .before .before .before .before .before .before .before .before .before .before .before .before .before .before .before .before .before .login-line .ensures)) (c .before .before .before .before .before .before .before .before .before .before .before .before .before .before .show-slots .ensures))
+    (c .before .before .before .before .before .before .before .before .before .before .show-nodes .ensures))
+    (c .before .before .before .before .before .before .show-readings .ensures))
+    (all-one _ _ _ (c .before .before .end-line .ensures))
+
+pub show-spec : {M : Type 1} → statement M
+show-spec =
+    tie.close
+    (tie.spec
+    login-line-requires
+    show-slots-requires
+    show-nodes-requires
+    show-readings-requires
+    end-line-requires
+    same-length
+    returns)
