@@ -5,7 +5,7 @@ use line::Fault;
 use line::Mode;
 use line::PacketOutcome;
 use line::Reading;
-use rules::Fed;
+use rules::FedByValue;
 
 // Where a text ends, and the record after the bytes read so far.
 struct Run {
@@ -277,7 +277,7 @@ fn show_fed(mode: Mode, count: usize) {
     show_told(mode, count, fed, &room);
 }
 
-fn show_told(mode: Mode, count: usize, fed: Fed, room: &[u8]) {
+fn show_told(mode: Mode, count: usize, fed: FedByValue, room: &[u8]) {
     let answer = fed.answer;
     let after = fed.reading;
     let mut page = [0u8; PAGE];

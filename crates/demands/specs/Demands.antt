@@ -161,9 +161,9 @@ made-untouched (starts {m} {p} x) n e =
 made-untouched (enrols {m} {n = k} {type} x) n e =
     let q = x ∙ enrol-refused (m .table) k type n (ap (λ (z : Enrolled). z .refusal) (sym x) ∙ e) in
     record { memory = ap (λ (z : Enrolled). record { hub = m .hub; table = z .table; records = m .records }) q; reading = refl; room = refl }
-made-untouched (closes {m} {l} {spare} {o} x) n e =
+made-untouched (closes {m} {l} {spare} {e = r} x) n e =
     let q = close-refused (m .hub) (taken (lineRecord m l spare)) l n (sym (x .refusal) ∙ e) in
-    let kept : o .reading ≡ lineRecord m l spare = x .kept n e in
+    let kept : r ≡ lineRecord m l spare = x .kept n e in
     record {
       memory = same-memory (x .hub ∙ ap (λ (z : Closed). z .hub) q) refl (ap (set (m .records) l) kept ∙ set-getD (m .records) l spare);
       reading = ap some kept;

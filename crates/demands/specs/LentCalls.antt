@@ -2,29 +2,27 @@
 -- kept between calls, what each is lent and what is compared of it are those of crate feeds (Service) and of Steps.
 use Prim.Native.Nat.{ℕ}
 use mathlib.Core.List.{List, [], _∷_}
-use lib.ListN.{set}
 use Rattle.line.specs.declared.Reading.{Reading}
 use Rattle.feeds.specs.Service.{Lent, Got, recordFor, leftBy}
 use Rattle.rules.specs.Hub.{hub}
-use Rattle.demands.specs.Steps.{Memory, Step, close, feed, Return, closed, fed, lineRecord, Made, Chain}
-use Rattle.rules.specs.Answers.{closedOf, fedOf}
-use Rattle.rules.specs.declared.ClosedLent.{ClosedLent}
-use Rattle.rules.specs.declared.FedLent.{FedLent}
-use Rattle.rules.specs.Lent.{closedAnswer, ClosesLent, fedAnswer, FeedsLent}
+use Rattle.demands.specs.Steps.{Memory, Step, feed, Return, fed, Made, Chain}
+use Rattle.rules.specs.Answers.{fedOf}
+use Rattle.rules.specs.declared.Fed.{Fed}
+use Rattle.rules.specs.Promises as promises
 
 -- what a feed gives back: its answer and the hub, and table, record and room where they lie
 pub record Back : Type 0 where
-  pub given : FedLent
+  pub given : Fed
   pub table : List ℕ
   pub reading : Reading
   pub room : List ℕ
 
 abbrev pub gotOf : Back → Got hub
-gotOf o = fedOf (fedAnswer (o .given) (o .reading)) (o .table) (o .room)
+gotOf o = fedOf (o .given .answer) (o .given .hub) (o .table) (o .reading) (o .room)
 
 -- a feed: the relation in the `ensures` of `feed`
 abbrev pub FedOn : Memory → Lent → Back → Type 0
-FedOn m g o = FeedsLent (m .hub) (m .table) (recordFor hub m g) (g .line) (g .bytes) (g .room) (o .given) (o .table) (o .reading) (o .room)
+FedOn m g o = promises.Feeds (m .hub) (m .table) (recordFor hub m g) (g .line) (g .bytes) (g .room) (o .given .answer) (o .given .hub) (o .table) (o .reading) (o .room)
 
 -- feeds one after another
 pub data Run : Memory → List Lent → List Back → Memory → Type 0 where
@@ -39,11 +37,9 @@ pub record Feeds : Type 0 where
   pub end : Memory
   pub run : Run start lent back end
 
--- one call of any kind: close and feed keep the relations in their `ensures`; any other, the host's, is as it is made by value
+-- one call of any kind: feed keeps the relation in its `ensures`; any other is as it is made by value
 pub data Call : Memory → Step → Return → Memory → Type 0 where
   host : {m v : Memory} {s : Step} {o : Return} → Made m s o v → Call m s o v
-  closes : {m : Memory} {l : ℕ} {spare : Reading} (r : ClosedLent) (e : Reading) → ClosesLent (m .hub) (lineRecord m l spare) l r e
-      → Call m (close l spare) (closed (closedOf (closedAnswer r e))) (record { hub = r .hub; table = m .table; records = set (m .records) l e })
   feeds : {m : Memory} {g : Lent} (o : Back) → FedOn m g o → Call m (feed g) (fed (gotOf o)) (leftBy hub m g (gotOf o))
 
 -- calls one after another

@@ -5,18 +5,19 @@ use Rattle.feeds.specs.Service as by-value
 use Rattle.feeds.specs.Service.{Lent}
 use Rattle.feeds.specs.Demand3.{OneDamaged, Harmless, AnyThenFrames, Recovered}
 use Rattle.rules.specs.Hub.{hub}
+use Rattle.rules.specs.PromiseLaws.{feeds-promise}
 use Rattle.demands.specs.Steps as steps
 use Rattle.demands.specs.Steps.{Memory, Step, Return, Made, Steps}
 use Rattle.demands.specs.StepsLaws.{chain-without}
 use Rattle.demands.specs.Demand3 as rules
 use Rattle.demands.specs.Demands.{Kind, Demand1, demand-1, Demand2, demand-2, OneHolder, no-two-holders}
-use Rattle.demands.specs.LentCalls.{Back, gotOf, Run, stop, next, Feeds, Call, host, closes, feeds, Calls}
+use Rattle.demands.specs.LentCalls.{Back, gotOf, Run, stop, next, Feeds, Call, host, feeds, Calls}
 use Rattle.demands.specs.LentRuns.{calls-any}
 
 -- a list of feeds on lent records, as one by value
 pub run-by-value : {m e : Memory} {gs : List Lent} {os : List Back} → Run m gs os e → by-value.Run hub m gs (map gotOf os) e
 run-by-value stop = by-value.stop
-run-by-value (next x rest) = by-value.next (x .0) (run-by-value rest)
+run-by-value (next x rest) = by-value.next (feeds-promise x) (run-by-value rest)
 
 abbrev pub feedsOf : Feeds → by-value.Feeds hub
 feedsOf F = record { start = F .start; lent = F .lent; got = map gotOf (F .back); end = F .end; run = run-by-value (F .run) }
@@ -24,8 +25,7 @@ feedsOf F = record { start = F .start; lent = F .lent; got = map gotOf (F .back)
 -- so is a list of calls
 made : {m v : Memory} {s : Step} {o : Return} → Call m s o v → Made m s o v
 made (host x) = x
-made (closes r e x) = steps.closes (x .0)
-made (feeds o x) = steps.feeds (x .0)
+made (feeds o x) = steps.feeds (feeds-promise x)
 
 pub stepsOf : {m e : Memory} {ss : List Step} {os : List Return} → Calls m ss os e → Steps m ss os e
 stepsOf steps.stop = steps.stop

@@ -32,12 +32,10 @@ use Rattle.rules.specs.declared.CallRefusal.the-variants as call-cause
 use Rattle.rules.specs.declared.FeedAnswer.the-variants as feed
 use Rattle.rules.specs.Answers.{number, Bounded}
 use Rattle.rules.specs.declared.CallAnswer.the-variants as call-answer
-use Rattle.rules.specs.declared.ClosedLent.{ClosedLent}
-use Rattle.rules.specs.Lent.{ClosesLent}
 use Rattle.demands.specs.Steps as steps
 use Rattle.demands.specs.Steps.{Memory, Step, Return, lineRecord}
 use Rattle.demands.specs.StepsLaws.{made-any}
-use Rattle.demands.specs.LentCalls.{Back, gotOf, FedOn, Run, stop, next, Call, host, closes, feeds, Calls}
+use Rattle.demands.specs.LentCalls.{Back, gotOf, FedOn, Run, stop, next, Call, host, feeds, Calls}
 
 -- each number of a packet's refusal is that of a cause
 causeOf : (n : ℕ) → 1 ≤ n → n ≤ 6 → (c : Cause) × (refusal c ≡ n)
@@ -114,17 +112,15 @@ fed-any m g = go (feedRefusal (m .table) (g .line) (length (g .room))) refl
         let (c, z) = refusal-cause (m .table) (g .line) (length (g .room)) n p in
         let e = sym (call-refused hub (m .hub) (m .table) s (g .line) (g .bytes) (length (g .room)) n p) in (
           record { given = record { answer = feed.Refused c; hub = m .hub }; table = m .table; reading = r; room = g .room },
-          (
-            record {
-              hub = ap (λ (w : Called hub). w .hub) e;
-              table = ap (λ (w : Called hub). w .table) e;
-              state = ap (λ (w : Called hub). w .state) e;
-              answer = ap system.refused z ∙ ap (λ (w : Called hub). w .result .answer) e;
-              room = ap (λ (w : Called hub). w .result .reply ++ drop (length (w .result .reply)) (g .room)) e;
-              kept = λ k q. refl;
-            },
-            tt,
-          ),
+          record {
+            hub = ap (λ (w : Called hub). w .hub) e;
+            table = ap (λ (w : Called hub). w .table) e;
+            state = ap (λ (w : Called hub). w .state) e;
+            answer = ap system.refused z ∙ ap (λ (w : Called hub). w .result .answer) e;
+            room = ap (λ (w : Called hub). w .result .reply ++ drop (length (w .result .reply)) (g .room)) e;
+            kept = λ k q. refl;
+            bounded = tt;
+          },
         )
     go none p =
         let x = read s (g .bytes) in
@@ -137,17 +133,15 @@ fed-any m g = go (feedRefusal (m .table) (g .line) (length (g .room))) refl
             reading = v .reading;
             room = y .reply ++ drop (length (y .reply)) (g .room);
           },
-          (
-            record {
-              hub = ap (λ (w : Called hub). w .hub) e;
-              table = ap (λ (w : Called hub). w .table) e;
-              state = v .state ∙ ap (λ (w : Called hub). w .state) e;
-              answer = ap (λ (o : Option Outcome). system.told (x .used) o (length (y .reply))) (v .told) ∙ ap (λ (w : Called hub). w .result .answer) e;
-              room = ap (λ (w : Called hub). w .result .reply ++ drop (length (w .result .reply)) (g .room)) e;
-              kept = λ k q. let z : _≡_ {A = ℕ} 0 1 = cc in absurd (omega arith);
-            },
-            (v .bounded, v .within),
-          ),
+          record {
+            hub = ap (λ (w : Called hub). w .hub) e;
+            table = ap (λ (w : Called hub). w .table) e;
+            state = v .state ∙ ap (λ (w : Called hub). w .state) e;
+            answer = ap (λ (o : Option Outcome). system.told (x .used) o (length (y .reply))) (v .told) ∙ ap (λ (w : Called hub). w .result .answer) e;
+            room = ap (λ (w : Called hub). w .result .reply ++ drop (length (w .result .reply)) (g .room)) e;
+            kept = λ k q. let z : _≡_ {A = ℕ} 0 1 = cc in absurd (omega arith);
+            bounded = (v .bounded, v .within);
+          },
         )
 
 -- every list of feeds can be run
@@ -158,30 +152,11 @@ run-any m (g ∷ gs) =
     let (os, e, y) = run-any (leftBy hub m g (gotOf o)) gs in
     (o ∷ os, e, next x y)
 
--- so can the promise of the lent close
-closed-any : (h : Hub) (r : Reading) (l : ℕ) → (c : ClosedLent) × (e : Reading) × ClosesLent h r l c e
-closed-any h r l = go (not (ltb l lineCount)) refl
-  where
-    go : (x : Bool) → not (ltb l lineCount) ≡ x → (c : ClosedLent) × (e : Reading) × ClosesLent h r l c e
-    go true p = (
-      record { answer = call-answer.Refused call-cause.WrongLine; hub = h },
-      r,
-      (record { refusal = rw p; hub = rw p; state = rw p; kept = λ n q. refl }, tt),
-    )
-    go false p = (
-      record { answer = call-answer.Done; hub = closedLine h l },
-      emptiedReading,
-      (
-        record { refusal = rw p; hub = rw p; state = rw p; kept = λ n q. let z : _≡_ {A = ℕ} 0 1 = cc in absurd (omega arith) },
-        (refl, omega arith, tt),
-      ),
-    )
-
--- any call, close and feed on a lent record
+-- any call, feed on a lent record
 call-any : (m : Memory) (s : Step) → (o : Return) × (v : Memory) × Call m s o v
 call-any m (steps.start p) = let (o, v, x) = made-any m (steps.start p) in (o, v, host x)
 call-any m (steps.enrol n type) = let (o, v, x) = made-any m (steps.enrol n type) in (o, v, host x)
-call-any m (steps.close l spare) = let (c, e, x) = closed-any (m .hub) (lineRecord m l spare) l in (_, _, closes c e x)
+call-any m (steps.close l spare) = let (o, v, x) = made-any m (steps.close l spare) in (o, v, host x)
 call-any m (steps.finish y room) = let (o, v, x) = made-any m (steps.finish y room) in (o, v, host x)
 call-any m (steps.feed g) = let (o, x) = fed-any m g in (_, _, feeds o x)
 

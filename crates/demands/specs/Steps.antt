@@ -18,7 +18,10 @@ use Rattle.feeds.specs.Service as service
 use Rattle.feeds.specs.Service.{Lent, Got, entryOf, Promise, recordFor, leftBy}
 use Rattle.rules.specs.Hub as rules
 use Rattle.rules.specs.Hub.{Started, Enrolled, Finish, refusedFinish, finishedOn, isLoggedIn, hub}
-use Rattle.rules.specs.Promises.{Starts, Enrols, ClosedLine, Closes, FinishedSession, Finishes}
+use Rattle.rules.specs.declared.Hub.{Hub}
+use Rattle.rules.specs.declared.CallAnswer.{CallAnswer}
+use Rattle.rules.specs.Answers.{ClosedLine, closedOf, FinishedSession}
+use Rattle.rules.specs.Promises.{Starts, Enrols, Closes, Finishes}
 use Rattle.demands.specs.Calls as calls
 use Rattle.demands.specs.Calls.{isPassword, unlessRefused}
 
@@ -53,8 +56,8 @@ pub data Made : Memory → Step → Return → Memory → Type 0 where
       → Made m (start p) (started o) (record { hub = o .hub; table = o .table; records = m .records })
   enrols : {m : Memory} {n type : ℕ} {o : Enrolled} → Enrols (m .table) n type o
       → Made m (enrol n type) (enrolled o) (record { hub = m .hub; table = o .table; records = m .records })
-  closes : {m : Memory} {l : ℕ} {spare : Reading} {o : ClosedLine} → Closes (m .hub) (lineRecord m l spare) l o
-      → Made m (close l spare) (closed o) (record { hub = o .hub; table = m .table; records = set (m .records) l (o .reading) })
+  closes : {m : Memory} {l : ℕ} {spare : Reading} {a : CallAnswer} {h : Hub} {e : Reading} → Closes (m .hub) (lineRecord m l spare) l a h e
+      → Made m (close l spare) (closed (closedOf a h e)) (record { hub = h; table = m .table; records = set (m .records) l e })
   finishes : {m : Memory} {x : ℕ} {room : List ℕ} {o : FinishedSession} → Finishes (m .hub) x room o
       → Made m (finish x room) (finished o) (record { hub = o .hub; table = m .table; records = m .records })
   feeds : {m : Memory} {g : Lent} {o : Got hub} → Promise hub (m .hub) (m .table) (recordFor hub m g) (g .line) (g .bytes) (g .room) o

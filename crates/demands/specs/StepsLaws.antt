@@ -4,6 +4,7 @@ use mathlib.Core.Path.{_≡_, refl, sym, ap, ap₂, _∙_}
 use mathlib.Core.List.{List, [], _∷_, map}
 use mathlib.Core.Bool.{Bool, true, false, cond, not, _&&_, true≢false}
 use mathlib.Core.Option.{Option, none, some, Option·none-ne-some}
+use native.Mathlib.Omega.{arith}
 use lib.ListN.{length, set, List·getD-map}
 use lib.Dec.{eqb, ltb}
 use Rattle.line.specs.declared.Reading.{Reading}
@@ -18,7 +19,10 @@ use Rattle.feeds.specs.ServiceLaws.{map-set, promise-feed}
 use Rattle.feeds.specs.Runs.{promise-any}
 use Rattle.rules.specs.declared.Hub.{Hub}
 use Rattle.rules.specs.Hub as rules
-use Rattle.rules.specs.Promises.{ClosedLine, Closes}
+use Rattle.rules.specs.declared.CallAnswer.{CallAnswer}
+use Rattle.rules.specs.declared.CallAnswer.the-variants as call-answer
+use Rattle.rules.specs.declared.CallRefusal.the-variants as call-cause
+use Rattle.rules.specs.Promises.{Closes}
 use Rattle.demands.specs.Calls as calls
 use Rattle.demands.specs.Calls.{World, isPassword, unlessRefused, after, afterAll}
 use Rattle.demands.specs.Steps.{Memory, Step, start, enrol, close, finish, feed, Return, started, enrolled, closed, finished, fed, lineRecord, Made, starts, enrols, closes, finishes, feeds, Chain, Steps, stop, next, refusal, finishTells, feedTells, refusalTold, isRefusal, isRefused, isPrivileged, Unprivileged, loggedBy, loggedByAll, callOf}
@@ -34,8 +38,8 @@ pub made-after : {m v : Memory} {s : Step} {o : Return} → Made m s o v → wor
 unfolding after callOf worldOf entryOf
 made-after (starts {m} x) = ap (λ (z : rules.Started). record { hub = z .hub; table = z .table; states = map taken (m .records) }) x
 made-after (enrols {m} x) = ap (λ (z : rules.Enrolled). record { hub = m .hub; table = z .table; states = map taken (m .records) }) x
-made-after (closes {m} {l} {spare} {o} x) =
-    let s = map-set taken (m .records) l (o .reading) ∙ ap (set (map taken (m .records)) l) (x .state) in
+made-after (closes {m} {l} {spare} {e = e} x) =
+    let s = map-set taken (m .records) l e ∙ ap (set (map taken (m .records)) l) (x .state) in
     rw (List·getD-map taken (m .records) l spare) (same-world (x .hub) s)
 made-after (finishes {m} x) = ap (λ (h : Hub). record { hub = h; table = m .table; states = map taken (m .records) }) (x .hub)
 made-after (feeds {m} {g} x) = ap (λ (z : World × system.Result). z .0) (sym (promise-feed m g x))
@@ -140,24 +144,23 @@ steps-unprivileged (next (feeds {m} {g} {o} x) rest) u = (u .0, rw (← made-aft
 -- ---- any list of calls can be made
 
 -- a promise of close can be kept
-close-any : (h : Hub) (r : Reading) (l : ℕ) → (o : ClosedLine) × Closes h r l o
-close-any h r l = go (rules.closeRefusal l) refl
+pub close-any : (h : Hub) (s : Reading) (l : ℕ) → (a : CallAnswer) × (h′ : Hub) × (e : Reading) × Closes h s l a h′ e
+close-any h s l = go (not (ltb l rules.lineCount)) refl
   where
-    c : rules.Closed
-    c = rules.close h (taken r) l
-
-    go : (x : Option ℕ) → rules.closeRefusal l ≡ x → (o : ClosedLine) × Closes h r l o
-    go (some n) p = (record { refusal = c .refusal; hub = c .hub; reading = r }, record { refusal = refl; hub = refl; state = rw p; kept = λ k q. refl })
-    go none p = (
-      record { refusal = c .refusal; hub = c .hub; reading = emptiedReading },
-      record { refusal = refl; hub = refl; state = rw p; kept = λ k q. absurd (Option·none-ne-some k (sym p ∙ sym (close-refusal h (taken r) l) ∙ q)) },
+    go : (x : Bool) → not (ltb l rules.lineCount) ≡ x → (a : CallAnswer) × (h′ : Hub) × (e : Reading) × Closes h s l a h′ e
+    go true p = (call-answer.Refused call-cause.WrongLine, h, s, record { refusal = rw p; hub = rw p; state = rw p; kept = λ n q. refl; bounded = tt })
+    go false p = (
+      call-answer.Done,
+      rules.closedLine h l,
+      emptiedReading,
+      record { refusal = rw p; hub = rw p; state = rw p; kept = λ n q. absurd (Option·none-ne-some n q); bounded = (refl, omega arith, tt) },
     )
 
 -- any call
 pub made-any : (m : Memory) (s : Step) → (o : Return) × (v : Memory) × Made m s o v
 made-any m (start p) = (started (rules.start (m .hub) (m .table) p), _, starts refl)
 made-any m (enrol n type) = (enrolled (rules.enrol (m .table) n type), _, enrols refl)
-made-any m (close l spare) = let (o, x) = close-any (m .hub) (lineRecord m l spare) l in (closed o, _, closes x)
+made-any m (close l spare) = let (a, h, e, x) = close-any (m .hub) (lineRecord m l spare) l in (_, _, closes x)
 made-any m (finish x room) = (finished (record { answer = _; hub = _; room = _ }), _, finishes (record { answer = refl; hub = refl; room = refl }))
 made-any m (feed g) = let (o, x) = promise-any (m .hub) (m .table) (recordFor rules.hub m g) (g .line) (g .bytes) (g .room) in (fed o, _, feeds x)
 

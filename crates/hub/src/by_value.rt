@@ -1,20 +1,14 @@
-// The service's calls for a caller that keeps its records by value: a line's record is lent to the call, and given back beside what the
-// call gives. Each promises what the hub's call by value does: crate calls, specs/Promises.antt.
-// A caller of these needs no proof by hand, as one that lends a record itself does. It stands on `service` and the parts of an answer.
-ghost use Rattle.rules.specs.LinePromises.{ClosesByValue, FeedsByValue};
+// Feed and close for a caller that keeps its records by value: the record is put into a local, lent to the call, and given back beside the
+// answer. A caller of these needs no proof by hand, as one that lends a record itself does.
+ghost use mathlib.Core.Path.{_≡_};
+ghost use Rattle.rules.specs.Promises.{Closes, Feeds};
+ghost use Rattle.hub.specs.Parts.{closedWith, fedWith};
 use line::Reading;
 use rules::Closed;
+use rules::ClosedByValue;
 use rules::Fed;
+use rules::FedByValue;
 use rules::Hub;
-
-// A line is closed: its login is lost, its reading state emptied, its sessions closed.
-pub fn close_by_value(hub: Hub, reading: Reading, line: u8) -> Closed
-    ensures { λ r. ⌜ ClosesByValue hub reading line r ⌝ }
-{
-    let mut lent = reading;
-    let closed = crate::lent::close(hub, &mut lent, line);
-    crate::parts::closed_with(closed, lent)
-}
 
 // Bytes on a line: reads up to the first outcome or the end of the bytes, and serves the outcome.
 pub fn feed_by_value(
@@ -24,10 +18,44 @@ pub fn feed_by_value(
     line: u8,
     bytes: &[u8],
     room: &mut [u8],
-) -> Fed
-    ensures { λ r. ⌜ FeedsByValue hub (now (table .entry)) reading line (now (bytes .entry)) (now (room .entry)) r (now (table .exit)) (now (room .exit)) ⌝ }
+) -> FedByValue
+    ensures { λ r. ⌜ Feeds hub (now (table .entry)) reading line (now (bytes .entry)) (now (room .entry)) (r .answer) (r .hub) (now (table .exit)) (r .reading) (now (room .exit)) ⌝ }
 {
     let mut lent = reading;
     let fed = crate::lent::feed(hub, table, &mut lent, line, bytes, room);
-    crate::parts::fed_with(fed, lent)
+    fed_with(fed, lent)
+}
+
+// A line is closed: its login is lost, its reading state emptied, its sessions closed.
+pub fn close_by_value(hub: Hub, reading: Reading, line: u8) -> ClosedByValue
+    ensures { λ r. ⌜ Closes hub reading line (r .answer) (r .hub) (r .reading) ⌝ }
+{
+    let mut lent = reading;
+    let closed = crate::lent::close(hub, &mut lent, line);
+    closed_with(closed, lent)
+}
+
+// An answer on a lent record, put together with the record.
+fn fed_with(fed: Fed, reading: Reading) -> FedByValue
+    ensures { λ r. ⌜ r ≡ fedWith fed reading ⌝ }
+{
+    let answer = fed.answer;
+    let hub = fed.hub;
+    FedByValue {
+        answer: answer,
+        hub: hub,
+        reading: reading,
+    }
+}
+
+fn closed_with(closed: Closed, reading: Reading) -> ClosedByValue
+    ensures { λ r. ⌜ r ≡ closedWith closed reading ⌝ }
+{
+    let answer = closed.answer;
+    let hub = closed.hub;
+    ClosedByValue {
+        answer: answer,
+        hub: hub,
+        reading: reading,
+    }
 }

@@ -1,15 +1,14 @@
 // The host's calls: the hub before any start, start, enrol, finish a session (document 01, "What the commands do").
-// State goes in and out by value; the node table and the reply room are lent. Each call's promise is the rule's in answer, hub,
-// table and every byte of the room, refusals included: crate rules, specs/Hub.antt, specs/Promises.antt.
-// It stands on the node table's and the sessions' code, on replies and on the password's code.
+// The hub goes in and out by value; the node table and the reply room are lent.
 ghost use Prim.Native.Nat.{_≤_};
 ghost use mathlib.Core.Path.{_≡_};
 ghost use lib.ListN.{length};
 ghost use Rattle.frame.specs.Writer.{minRoom};
-ghost use Rattle.rules.specs.RoomReplies.{Replied};
-ghost use Rattle.rules.specs.Hub.{freshHub, firstHub, notice};
+ghost use Rattle.rules.specs.Room.{Replied};
+ghost use Rattle.rules.specs.Hub.{freshHub, firstHub, withSlots, notice};
 ghost use Rattle.rules.specs.Promises.{Starts, Enrols, Finishes};
 ghost use Rattle.rules.specs.Answers.{startedOf, enrolledOf, finishedOf};
+use frame::Written;
 use rules::CallAnswer;
 use rules::CallRefusal;
 use rules::FinishAnswer;
@@ -17,6 +16,7 @@ use rules::Finished;
 use rules::Hub;
 use rules::Started;
 use sessions::Owner;
+use sessions::Slot;
 
 // The hub before any start.
 pub fn first() -> Hub
@@ -54,7 +54,9 @@ pub fn start(hub: Hub, table: &mut [u8], password: &[u8]) -> Started
         };
     }
     nodes::empty(table);
-    let next = fresh(requests::passwords::password_at(password, 0));
+    let mut secret = [0u8; rules::PASSWORD];
+    memory::copy(&mut secret, 0, password);
+    let next = fresh(secret);
     Started {
         answer: CallAnswer::Done,
         hub: next,
@@ -99,12 +101,25 @@ pub fn finish(hub: Hub, session: u16, room: &mut [u8]) -> Finished
         },
         Owner::Line(line) => {
             let len = notice(room, session);
-            let next = requests::passwords::with_slots(hub, slots);
+            let next = with_slots(hub, slots);
             Finished {
                 answer: FinishAnswer::Finished { line, len },
                 hub: next,
             }
         }
+    }
+}
+
+// The hub with other sessions.
+fn with_slots(hub: Hub, slots: [Slot; sessions::SLOTS]) -> Hub
+    ensures { λ r. ⌜ r ≡ withSlots hub slots ⌝ }
+{
+    let password = hub.password;
+    let logins = hub.logins;
+    Hub {
+        password: password,
+        logins: logins,
+        slots: slots,
     }
 }
 
@@ -114,5 +129,9 @@ fn notice(room: &mut [u8], session: u16) -> usize
     ensures { λ r. ⌜ Replied (notice session) (now (room .entry)) r (now (room .exit)) ⌝ }
 {
     let bytes = [(session / 256) as u8, (session % 256) as u8];
-    requests::replies::reply(room, 0x0304, &bytes)
+    match frame::write(room, 0x0304, &bytes) {
+        Written::Length(n) => n,
+        Written::ShortRoom => 0,
+        Written::LongData => 0,
+    }
 }

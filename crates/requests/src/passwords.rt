@@ -1,15 +1,15 @@
 // The hub's state: password enter and change, and the sessions put back (document 01, "What the commands do").
-// Answers and hubs are the definition's: crate rules, specs/Hub.antt. It stands on the hub's rules, the lines' logins and
-// lent bytes, compared and stored.
+// Statuses and hubs are the definition's: crate rules, specs/Hub.antt.
+ghost use Prim.Native.Nat.{_+_, _≤_, _<_};
 ghost use mathlib.Core.Path.{_≡_};
-ghost use Rattle.rules.specs.Hub.{enter, change, withSlots};
-ghost use Rattle.requests.specs.Entering.{Enters};
-ghost use Rattle.rules.specs.RoomReplies.{passwordAt};
+ghost use lib.ListN.{length, take, drop};
+ghost use Rattle.rules.specs.Hub.{lineCount, passwordSize, enter, change, withSlots};
+ghost use Rattle.requests.specs.Answers.{Enters};
 use rules::Hub;
 use sessions::Slot;
 
 // What a password request answers, and the hub that it leaves.
-pub struct Entered {
+pub(crate) struct Entered {
     pub status: u8,
     pub hub: Hub,
 }
@@ -20,7 +20,8 @@ const CORRECT: u8 = 0;
 const INCORRECT: u8 = 1;
 
 // Password enter, on a line.
-pub fn enter(hub: Hub, line: u8, given: [u8; rules::PASSWORD]) -> Entered
+pub(crate) fn enter(hub: Hub, line: u8, given: [u8; rules::PASSWORD]) -> Entered
+    requires { ⌜ line < lineCount ⌝ }
     ensures { λ r. ⌜ Enters (enter hub line given) r ⌝ }
 {
     let password = hub.password;
@@ -31,7 +32,7 @@ pub fn enter(hub: Hub, line: u8, given: [u8; rules::PASSWORD]) -> Entered
         };
     }
     let before = hub.logins;
-    let logins = crate::logins::with_login(before, line, true);
+    let logins = crate::logins::with_login(before, line);
     let slots = hub.slots;
     let next = Hub {
         password: password,
@@ -45,7 +46,7 @@ pub fn enter(hub: Hub, line: u8, given: [u8; rules::PASSWORD]) -> Entered
 }
 
 // Password change.
-pub fn change(hub: Hub, old: [u8; rules::PASSWORD], new: [u8; rules::PASSWORD]) -> Entered
+pub(crate) fn change(hub: Hub, old: [u8; rules::PASSWORD], new: [u8; rules::PASSWORD]) -> Entered
     ensures { λ r. ⌜ Enters (change hub old new) r ⌝ }
 {
     let password = hub.password;
@@ -69,7 +70,7 @@ pub fn change(hub: Hub, old: [u8; rules::PASSWORD], new: [u8; rules::PASSWORD]) 
 }
 
 // The hub with other sessions.
-pub fn with_slots(hub: Hub, slots: [Slot; sessions::SLOTS]) -> Hub
+pub(crate) fn with_slots(hub: Hub, slots: [Slot; sessions::SLOTS]) -> Hub
     ensures { λ r. ⌜ r ≡ withSlots hub slots ⌝ }
 {
     let password = hub.password;
@@ -81,14 +82,12 @@ pub fn with_slots(hub: Hub, slots: [Slot; sessions::SLOTS]) -> Hub
     }
 }
 
-// A password in a request's data, from the place `at` on; bytes that are missing count as 0.
-pub fn password_at(payload: &[u8], at: usize) -> [u8; rules::PASSWORD]
-    ensures { λ r. ⌜ r ≡ passwordAt (now (payload .entry)) at ⌝ }
+// A password in a request's data, from the place `at` on.
+pub(crate) fn password_at(payload: &[u8], at: usize) -> [u8; rules::PASSWORD]
+    requires { ⌜ at + passwordSize ≤ length (now payload) ⌝ }
+    ensures { λ r. ⌜ r ≡ take passwordSize (drop at (now (payload .entry))) ⌝ }
 {
     let mut out = [0u8; rules::PASSWORD];
-    if payload.len() <= at {
-        return out;
-    }
-    memory::copy(&mut out, 0, &payload[at..]);
+    memory::copy(&mut out, 0, &payload[at..at + rules::PASSWORD]);
     out
 }

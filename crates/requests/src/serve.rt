@@ -1,7 +1,6 @@
 // The requests: a frame on a line is judged, served and answered (document 01, "The command directory", "What the commands do").
 // Hub, table, reply and the room behind it are the definition's: crate rules, specs/Hub.antt: serve.
-// It stands on the replies, the directory, the node table, the sessions, the passwords and the logins.
-ghost use Prim.Native.Nat.{_+_, _≤_};
+ghost use Prim.Native.Nat.{_+_, _≤_, _<_};
 ghost use mathlib.Core.Path.{_≡_};
 ghost use mathlib.Core.List.{[], _∷_};
 ghost use lib.ListN.{length, drop, getD};
@@ -11,11 +10,11 @@ ghost use Rattle.nodes.specs.Table.{tableSize, setName, setOrderAndPlacement, s
 ghost use Rattle.sessions.specs.Sessions.{closeAll};
 ghost use Rattle.directory.specs.declared.Verdict.the-variants.{Fits};
 ghost use Rattle.directory.specs.Lookup.{verdict};
-ghost use Rattle.rules.specs.Hub.{passwordSize, enter, changed, getNode, nodeReply, removeNodes, virginState, modeSend, request, mayAsk, serve};
-ghost use Rattle.rules.specs.RoomReplies.{Replied, Serves, Answered, served, refusal};
+ghost use Rattle.rules.specs.Hub.{lineCount, passwordSize, enter, changed, getNode, nodeReply, removeNodes, virginState, modeSend, request, mayAsk, serve};
+ghost use Rattle.requests.specs.Answers.{Serves, Answered};
+use crate::Served;
 use directory::Verdict;
 use rules::Hub;
-use rules::Served;
 use sessions::Slot;
 
 // The request that a line may ask before it is logged in.
@@ -24,39 +23,12 @@ const PASSWORD_ENTER: u16 = 0x3000;
 // The bytes of the error frame.
 const UNKNOWN_COMMAND: u8 = 1;
 
-const FRAME_ERROR: u8 = 2;
+pub(crate) const FRAME_ERROR: u8 = 2;
 
 const NOT_LOGGED_IN: u8 = 12;
 
-// A frame on a line. The call's refusals are judged before: with a table or room of another length nothing is served.
-pub fn serve(
-    hub: Hub,
-    table: &mut [u8],
-    room: &mut [u8],
-    line: u8,
-    command: u16,
-    payload: &[u8],
-) -> Served
-    ensures { λ r. ⌜ Serves (served (now (table .entry)) (now (room .entry)) hub (serve hub (now (table .entry)) line (frame command (now (payload .entry))))) (now (room .entry)) r (now (table .exit)) (now (room .exit)) ⌝ }
-{
-    if table.len() != nodes::TABLE {
-        return Served { hub: hub, len: 0 };
-    }
-    if room.len() < frame::ROOM {
-        return Served { hub: hub, len: 0 };
-    }
-    judged(hub, table, room, line, command, payload)
-}
-
-// The error reply of a packet that was refused; nothing in less room.
-pub fn refuse(room: &mut [u8]) -> usize
-    ensures { λ r. ⌜ Replied (refusal (now (room .entry))) (now (room .entry)) r (now (room .exit)) ⌝ }
-{
-    crate::replies::error(room, FRAME_ERROR)
-}
-
 // The order of document 01: command unknown, length outside its range, not logged in, not served.
-fn judged(
+pub(crate) fn serve(
     hub: Hub,
     table: &mut [u8],
     room: &mut [u8],
@@ -64,7 +36,7 @@ fn judged(
     command: u16,
     payload: &[u8],
 ) -> Served
-    requires { ⌜ (length (now table) ≡ tableSize) × (minRoom ≤ length (now room)) ⌝ }
+    requires { ⌜ (length (now table) ≡ tableSize) × (minRoom ≤ length (now room)) × (line < lineCount) ⌝ }
     ensures { λ r. ⌜ Serves (serve hub (now (table .entry)) line (frame command (now (payload .entry)))) (now (room .entry)) r (now (table .exit)) (now (room .exit)) ⌝ }
 {
     match directory::judge(command, payload.len()) {
@@ -88,6 +60,7 @@ fn judged(
 }
 
 fn may_ask(logins: [bool; rules::LINES], line: u8, command: u16) -> bool
+    requires { ⌜ line < lineCount ⌝ }
     ensures { λ r. ⌜ r ≡ mayAsk logins line command ⌝ }
 {
     if crate::logins::is_logged_in(logins, line) {
@@ -105,7 +78,7 @@ fn request(
     command: u16,
     payload: &[u8],
 ) -> Served
-    requires { ⌜ (length (now table) ≡ tableSize) × (minRoom ≤ length (now room)) × (verdict command (length (now payload)) ≡ Fits) ⌝ }
+    requires { ⌜ (length (now table) ≡ tableSize) × (minRoom ≤ length (now room)) × (line < lineCount) × (verdict command (length (now payload)) ≡ Fits) ⌝ }
     ensures { λ r. ⌜ Serves (request hub (now (table .entry)) line command (now (payload .entry))) (now (room .entry)) r (now (table .exit)) (now (room .exit)) ⌝ }
 {
     match command {
@@ -126,7 +99,7 @@ fn request(
 }
 
 fn enter(hub: Hub, room: &mut [u8], line: u8, payload: &[u8]) -> Served
-    requires { ⌜ (minRoom ≤ length (now room)) × (length (now payload) ≡ passwordSize) ⌝ }
+    requires { ⌜ (minRoom ≤ length (now room)) × (length (now payload) ≡ passwordSize) × (line < lineCount) ⌝ }
     ensures { λ r. ⌜ Answered (enter hub line (now (payload .entry)) .hub) (wire 0x3001 (enter hub line (now (payload .entry)) .status ∷ [])) (now (room .entry)) r (now (room .exit)) ⌝ }
 {
     let given = crate::passwords::password_at(payload, 0);

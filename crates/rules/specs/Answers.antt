@@ -11,7 +11,6 @@ use Rattle.feeds.specs.System as feeds
 use Rattle.feeds.specs.Service.{Got}
 use Rattle.rules.specs.declared.Hub.{Hub}
 use Rattle.rules.specs.Hub as rules
-use Rattle.rules.specs.Promises.{ClosedLine, FinishedSession}
 use Rattle.rules.specs.declared.CallRefusal.{CallRefusal}
 use Rattle.rules.specs.declared.CallRefusal.the-variants as cause
 use Rattle.rules.specs.declared.CallAnswer.{CallAnswer}
@@ -21,9 +20,7 @@ use Rattle.rules.specs.declared.FinishAnswer.the-variants as finish
 use Rattle.rules.specs.declared.FeedAnswer.{FeedAnswer}
 use Rattle.rules.specs.declared.FeedAnswer.the-variants as feed
 use Rattle.rules.specs.declared.Started.{Started}
-use Rattle.rules.specs.declared.Closed.{Closed}
 use Rattle.rules.specs.declared.Finished.{Finished}
-use Rattle.rules.specs.declared.Fed.{Fed}
 
 -- the number of each refusal
 abbrev pub number : CallRefusal → ℕ
@@ -46,12 +43,24 @@ startedOf r t = record { refusal = refusalOf (r .answer); hub = r .hub; table = 
 abbrev pub enrolledOf : CallAnswer → List ℕ → rules.Enrolled
 enrolledOf r t = record { refusal = refusalOf r; table = t }
 
-abbrev pub closedOf : Closed → ClosedLine
-closedOf r = record { refusal = refusalOf (r .answer); hub = r .hub; reading = r .reading }
+-- a closed line: refusal, hub and record
+pub record ClosedLine : Type 0 where
+  pub refusal : Option ℕ
+  pub hub : Hub
+  pub reading : Reading
+
+abbrev pub closedOf : CallAnswer → Hub → Reading → ClosedLine
+closedOf a h e = record { refusal = refusalOf a; hub = h; reading = e }
 
 abbrev pub finishOf : FinishAnswer → rules.Finish
 finishOf (finish.Finished line len) = rules.finishedOn line len
 finishOf (finish.Refused r) = rules.refusedFinish (number r)
+
+-- a finished session: answer, hub and room
+pub record FinishedSession : Type 0 where
+  pub answer : rules.Finish
+  pub hub : Hub
+  pub room : List ℕ
 
 abbrev pub finishedOf : Finished → List ℕ → FinishedSession
 finishedOf r room = record { answer = finishOf (r .answer); hub = r .hub; room = room }
@@ -61,12 +70,8 @@ abbrev pub answerOf : FeedAnswer → List ℕ → feeds.Answer
 answerOf (feed.Told used o len) bytes = feeds.told used (outcome.told o bytes) len
 answerOf (feed.Refused r) bytes = feeds.refused (number r)
 
-abbrev pub fedOf : Fed → List ℕ → List ℕ → Got rules.hub
-fedOf r t room = record { hub = r .hub; table = t; reading = r .reading; answer = answerOf (r .answer) (r .reading .bytes); room = room }
-
--- `refused`: hub and record as they were lent
-abbrev pub refusedFeed : Hub → Reading → CallRefusal → Fed
-refusedFeed h r why = record { answer = feed.Refused why; hub = h; reading = r }
+abbrev pub fedOf : FeedAnswer → Hub → List ℕ → Reading → List ℕ → Got rules.hub
+fedOf a h t e room = record { hub = h; table = t; reading = e; answer = answerOf a (e .bytes); room = room }
 
 -- a record that a call gives back has its 255 places, claims no more bytes, and none while it skips; one of a refused call lies as it was lent
 abbrev pub Bounded : Reading → Type 0

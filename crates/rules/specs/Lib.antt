@@ -6,9 +6,7 @@ pub mod Lengths
 pub mod Examples
 pub mod Replies
 pub mod Answers
-pub mod LinePromises
-pub mod Lent
-pub mod LentLaws
-pub mod RoomReplies
-pub mod ReplyLaws
+pub mod PromiseLaws
+pub mod Room
+pub mod RoomLaws
 pub mod CallExamples

@@ -18,7 +18,9 @@ use Rattle.sessions.specs.Sessions as sessions
 use Rattle.sessions.specs.Sessions.{slotCount, closedSlot}
 use Rattle.rules.specs.declared.Hub.{Hub}
 use Rattle.rules.specs.Hub.{errorReply, frameError, serve, startRefusal, startBy, start, enrolRefusal, enrolBy, enrol, closeRefusal, closeBy, Closed, close, Finish, refusedFinish, Finished, finishBy, finish, lineCount, passwordSize, feedRefusal}
-use Rattle.rules.specs.Promises.{ClosedLine, Closes, FinishedSession, Finishes}
+use Rattle.rules.specs.declared.CallAnswer.{CallAnswer}
+use Rattle.rules.specs.Answers.{refusalOf, FinishedSession}
+use Rattle.rules.specs.Promises.{Closes, Finishes}
 
 -- start gives back the hub and the table that it was lent
 pub start-refused : (h : Hub) (t p : List ℕ) (n : ℕ) → start h t p .refusal ≡ some n → start h t p ≡ record { refusal = some n; hub = h; table = t }
@@ -54,8 +56,8 @@ finish-refused h x room n e = go (ltb room minRoom) (sessions.finish (h .slots) 
     go false (some f) e = let z : _≡_ {A = ℕ} 0 1 = cc in absurd (omega arith)
 
 -- so does every close and finish that keeps its promise: hub, record and room are as they were lent
-pub close-kept : (h : Hub) (r : Reading) (l : ℕ) (o : ClosedLine) (n : ℕ) → Closes h r l o → o .refusal ≡ some n → (o .hub ≡ h) × (o .reading ≡ r)
-close-kept h r l o n x e = (x .hub ∙ ap (λ (c : Closed). c .hub) (close-refused h (taken r) l n (sym (x .refusal) ∙ e)), x .kept n e)
+pub close-kept : (h : Hub) (s : Reading) (l : ℕ) (a : CallAnswer) (h′ : Hub) (e : Reading) (n : ℕ) → Closes h s l a h′ e → refusalOf a ≡ some n → (h′ ≡ h) × (e ≡ s)
+close-kept h s l a h′ r n x e = (x .hub ∙ ap (λ (c : Closed). c .hub) (close-refused h (taken s) l n (sym (x .refusal) ∙ e)), x .kept n e)
 
 pub finish-kept : (h : Hub) (y : ℕ) (space : List ℕ) (o : FinishedSession) (n : ℕ) → Finishes h y space o → o .answer ≡ refusedFinish n → (o .hub ≡ h) × (o .room ≡ space)
 finish-kept h y space o n x e =

@@ -44,7 +44,7 @@ pub struct Started {
     pub hub: Hub,
 }
 
-pub struct Closed {
+pub struct ClosedByValue {
     pub answer: CallAnswer,
     pub hub: Hub,
     pub reading: Reading,
@@ -71,25 +71,19 @@ pub enum FeedAnswer {
     Refused(CallRefusal),
 }
 
-pub struct Fed {
+pub struct FedByValue {
     pub answer: FeedAnswer,
     pub hub: Hub,
     pub reading: Reading,
 }
 
 // What close and feed on a lent record give back beside it.
-pub struct ClosedLent {
+pub struct Closed {
     pub answer: CallAnswer,
     pub hub: Hub,
 }
 
-pub struct FedLent {
+pub struct Fed {
     pub answer: FeedAnswer,
     pub hub: Hub,
-}
-
-// The hub that serving leaves, and the length of the reply at the room's front.
-pub struct Served {
-    pub hub: Hub,
-    pub len: usize,
 }

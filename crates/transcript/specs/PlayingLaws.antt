@@ -30,9 +30,9 @@ use Rattle.rules.specs.declared.FinishAnswer.the-variants as finish
 use Rattle.rules.specs.declared.Finished.{Finished}
 use Rattle.rules.specs.declared.FeedAnswer.{FeedAnswer}
 use Rattle.rules.specs.declared.FeedAnswer.the-variants as feed
-use Rattle.rules.specs.declared.Fed.{Fed}
 use Rattle.rules.specs.Answers.{number, refusalOf, finishedOf, answerOf}
-use Rattle.rules.specs.LinePromises.{FeedsByValue}
+use Rattle.rules.specs.Promises.{Feeds}
+use Rattle.rules.specs.PromiseLaws.{feeds-promise}
 use Rattle.report.specs.Report.{refusedLine, frameLine, hasOther, hasSpilled}
 use Rattle.transcript.specs.Replies.{filler, callLine, refusalLine, finishLine, outcomeLine, feedLine}
 use Rattle.transcript.specs.Playing.{callTold, finishTold, outcomeTold, feedTold}
@@ -125,14 +125,14 @@ module _ (part rest : List ℕ) (p : hasOther filler part ≡ false) (q : hasOth
       rw (reply-told (F .reply) left k long (w .room), none-spilled (F .reply) left k long (w .room), told, ← w .answer)
 
   pub feed-told : (h : Hub) (t : List ℕ) (r : Reading) (l : ℕ) (bytes : List ℕ) (a : FeedAnswer) (g : Hub) (e : Reading) (t′ left : List ℕ)
-      → FeedsByValue h t r l bytes part (record { answer = a; hub = g; reading = e }) t′ left
+      → Feeds h t r l bytes part a g t′ e left
       → feedLine a (left ++ rest) ≡ feedTold (answerOf a (e .bytes)) (take (lengthOf (answerOf a (e .bytes))) left)
   unfolding feedLine feedTold refusalLine lengthOf
-  feed-told h t r l bytes (feed.Refused why) g e t′ left (w, b) =
-      let room : left ≡ part = refused-untouched w (number why) refl .3 in
+  feed-told h t r l bytes (feed.Refused why) g e t′ left w =
+      let room : left ≡ part = refused-untouched (feeds-promise w) (number why) refl .3 in
       rw (none-spilled [] left 0 refl room)
-  feed-told h t r l bytes (feed.Told u o k) g e t′ left (w, b) =
+  feed-told h t r l bytes (feed.Told u o k) g e t′ left w =
       let c = called rules.hub h t r l bytes part in
       let long : k ≡ length (c .result .reply) = ap lengthOf (w .answer) ∙ call-length rules.hub h t _ l bytes (length part) in
       rw (reply-told (c .result .reply) left k long (w .room), none-spilled (c .result .reply) left k long (w .room))
-      (outcome-told u o (e .bytes) (take k left) (b .0 .0) (b .1))
+      (outcome-told u o (e .bytes) (take k left) (w .bounded .0 .0) (w .bounded .1))

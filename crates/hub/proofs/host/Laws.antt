@@ -11,7 +11,7 @@ use Rattle.sessions.specs.Sessions as sessions
 use Rattle.rules.specs.declared.Hub.{Hub}
 use Rattle.rules.specs.Hub.{shortRoom, notOpen, withSlots, refusedFinish, finishedOn, notice}
 use Rattle.rules.specs.Promises.{Finishes}
-use Rattle.rules.specs.RoomReplies.{Replied}
+use Rattle.rules.specs.Room.{Replied}
 
 module _ (h : Hub) (x : ℕ) (space : List ℕ) where
   -- finishing with short room, a number that is not open, and one that is

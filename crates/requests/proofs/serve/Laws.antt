@@ -1,29 +1,27 @@
 -- Laws of the requests: what is written and left is the definition's reply.
-use Prim.Native.Nat.{ℕ, _≤_}
+use Prim.Native.Nat.{ℕ}
 use mathlib.Core.Path.{refl}
 use mathlib.Core.List.{List, [], _∷_}
-use native.Mathlib.Omega.{arith}
-use lib.ListN.{length}
-use Rattle.frame.specs.Writer.{minRoom}
 use Rattle.nodes.specs.Table.{Result, inUse}
 use Rattle.nodes.specs.Answers.{Results}
 use Rattle.nodes.specs.Cases.{either}
 use Rattle.rules.specs.declared.Hub.{Hub}
 use Rattle.rules.specs.Hub.{Reply, failure, nodeReply, getNode}
-use Rattle.rules.specs.declared.Served.{Served}
-use Rattle.rules.specs.RoomReplies.{Replied, Serves, Answered, reply}
-use Rattle.rules.specs.ReplyLaws.{replied-whole}
+use Rattle.frame.specs.Frame.{wire}
+use Rattle.rules.specs.Room.{Replied}
+use Rattle.requests.specs.declared.Served.{Served}
+use Rattle.requests.specs.Answers.{Serves, Answered}
 
--- ---- one frame, written where it has room, is the definition's reply
+-- ---- one frame is the definition's reply
 
-module _ (h : Hub) (room left : List ℕ) (n : ℕ) (fits : minRoom ≤ length room) where
+module _ (h : Hub) (room left : List ℕ) (n : ℕ) where
   -- the error frame: hub and table stay
-  pub failure-served : (t : List ℕ) (e : ℕ) → Replied (reply room 0x0000 (e ∷ [])) room n left → Serves (failure h t e) room (record { hub = h; len = n }) t left
-  failure-served t e p = record { hub = refl; table = refl; replied = replied-whole _ _ _ _ _ fits (omega arith) p }
+  pub failure-served : (t : List ℕ) (e : ℕ) → Replied (wire 0x0000 (e ∷ [])) room n left → Serves (failure h t e) room (record { hub = h; len = n }) t left
+  failure-served t e p = record { hub = refl; table = refl; replied = p }
 
   -- the confirm of a node set command: the table is the command's
-  pub node-served : (t : List ℕ) (x : Result) (c node s : ℕ) → Results x s t → Replied (reply room c (s ∷ node ∷ [])) room n left → Serves (nodeReply h c node x) room (record { hub = h; len = n }) t left
-  node-served t x c node s r p = record { hub = refl; table = r .table; replied = replied-whole _ _ _ _ _ fits (omega arith) (rw (r .status) at p) }
+  pub node-served : (t : List ℕ) (x : Result) (c node s : ℕ) → Results x s t → Replied (wire c (s ∷ node ∷ [])) room n left → Serves (nodeReply h c node x) room (record { hub = h; len = n }) t left
+  node-served t x c node s r p = record { hub = refl; table = r .table; replied = rw (r .status) at p }
 
 -- ---- a request that changes no table leaves the one that it was lent
 

@@ -22,7 +22,8 @@ use Rattle.rules.specs.declared.CallAnswer.{CallAnswer}
 use Rattle.rules.specs.declared.FinishAnswer.{FinishAnswer}
 use Rattle.rules.specs.declared.FeedAnswer.{FeedAnswer}
 use Rattle.rules.specs.Answers.{startedOf, enrolledOf, finishedOf}
-use Rattle.rules.specs.LinePromises.{ClosesByValue, FeedsByValue}
+use Rattle.rules.specs.Promises.{Closes, Feeds}
+use Rattle.rules.specs.PromiseLaws.{feeds-promise}
 use Rattle.report.specs.Report.{hasOther, badLine}
 use Rattle.script.specs.Script as script
 use Rattle.script.specs.Script.{longest, roomMost, words, callOf, parse}
@@ -57,10 +58,10 @@ module _ {before after : List ℕ} {at end : ℕ} where
   plays-enrol r t n type a t′ s l = plays-one _ _ _ _ _ (rw (← s, call-told a)) l
 
   pub plays-close : (r : Run) (t : List ℕ) (l : ℕ) (a : CallAnswer) (h : Hub) (e : Reading)
-      → ClosesByValue (r .hub) (getD (r .readings) l emptiedReading) l (record { answer = a; hub = h; reading = e })
+      → Closes (r .hub) (getD (r .readings) l emptiedReading) l a h e
       → Leaves (appended before at (callLine a)) after end → Plays (close (worldOf r t) l) before at (record { hub = h; readings = set (r .readings) l e; at = end }) t after
   unfolding close
-  plays-close r t l a h e (s, b) w =
+  plays-close r t l a h e s w =
       plays-one _ _ _ _ _ (rw (List·getD-map taken (r .readings) l emptiedReading, ← s .refusal, ← s .hub, ← s .state, map-set taken (r .readings) l e, call-told a)) w
 
   -- the room's first bytes are lent, `part`, and `rest` stands behind them
@@ -72,12 +73,12 @@ module _ {before after : List ℕ} {at end : ℕ} where
     plays-finish r t x a h left s w = plays-one _ _ _ _ _ (rw (finish-told part rest p q (r .hub) x a h left s, s .hub)) w
 
     pub plays-feed : (r : Run) (t : List ℕ) (l : ℕ) (bytes : List ℕ) (a : FeedAnswer) (h : Hub) (e : Reading) (t′ left : List ℕ)
-        → FeedsByValue (r .hub) t (getD (r .readings) l emptiedReading) l bytes part (record { answer = a; hub = h; reading = e }) t′ left
+        → Feeds (r .hub) t (getD (r .readings) l emptiedReading) l bytes part a h t′ e left
         → Leaves (appended before at (feedLine a (left ++ rest))) after end
         → Plays (feed (worldOf r t) l bytes (length part)) before at (record { hub = h; readings = set (r .readings) l e; at = end }) t′ after
     unfolding feed service.worldOf service.entryOf service.resultOf
     plays-feed r t l bytes a h e t′ left s w =
-        let f = promise-feed (record { hub = r .hub; table = t; records = r .readings }) (record { line = l; bytes = bytes; room = part; spare = emptiedReading }) (s .0) in
+        let f = promise-feed (record { hub = r .hub; table = t; records = r .readings }) (record { line = l; bytes = bytes; room = part; spare = emptiedReading }) (feeds-promise s) in
         plays-one _ _ _ _ _ (rw (f, feed-told part rest p q (r .hub) t (getD (r .readings) l emptiedReading) l bytes a h e t′ left s)) w
 
   pub plays-bad : (r : Run) (t : List ℕ) → Leaves (appended before at badLine) after end

@@ -1,4 +1,4 @@
--- `lending::close` meets its contract: a walk of its MIR, by hand. The record is put into a local and lent to `service::close` for a lifetime
+-- `close_by_value` meets its contract: a walk of its MIR, by hand. The record is put into a local and lent to `close` for a lifetime
 -- that is made for the call. All that the walk knows of the two callees is that each meets its contract.
 -- Assumes nothing.
 use mathlib.Core.Path.{_≡_, refl, sym, subst}
@@ -36,24 +36,24 @@ use denote.Exit.{yes}
 use denote.Triple.Clauses.{ensured, lasts}
 use Rattle.line.specs.declared.Reading.{Reading}
 use Rattle.rules.specs.declared.Hub.{Hub}
+use Rattle.rules.specs.declared.ClosedByValue.{ClosedByValue}
+use Rattle.rules.specs.Promises.{Closes}
 use Rattle.rules.specs.declared.Closed.{Closed}
-use Rattle.rules.specs.LinePromises.{ClosesByValue}
-use Rattle.rules.specs.declared.ClosedLent.{ClosedLent}
-use Rattle.rules.specs.Lent.{closedAnswer, ClosesLent}
+use Rattle.hub.specs.Parts.{closedWith}
 use Rattle.line.proofs.Part.{rowOf, valOf, valsOf, typed}
 use Rattle.line.proofs.OnRecord.{R}
 use Rattle.hub.proofs.lent.close as on-lent
 use Rattle.hub.proofs.lent.close.Symbol as on-lent-def
-use Rattle.hub.proofs.lent.close.Symbol.{name as #service·close}
+use Rattle.hub.proofs.lent.close.Symbol.{name as #close}
 use Rattle.hub.proofs.lent.close.Met as on-lent-thm
-use Rattle.hub.proofs.parts.closed_with.Symbol as with-def
-use Rattle.hub.proofs.parts.closed_with.Symbol.{name as #parts·closed-with}
-use Rattle.hub.proofs.parts.closed_with.Met as with-thm
-use Rattle.hub.proofs.by_value.close_by_value.Key.{name as #lending·close}
+use Rattle.hub.proofs.by_value.closed_with.Symbol as with-def
+use Rattle.hub.proofs.by_value.closed_with.Symbol.{name as #closed-with}
+use Rattle.hub.proofs.by_value.closed_with.Met as with-thm
+use Rattle.hub.proofs.by_value.close_by_value.Key.{name as #close-by-value}
 use Rattle.hub.proofs.by_value.close_by_value as close
 use Rattle.hub.proofs.by_value.close_by_value.Statement as stated
 use Rattle.hub.proofs.by_value.close_by_value.Code as code
-use Rattle.hub.proofs.lent.Types.{HubType as Hb, ClosedType as An, ClosedLentType as To}
+use Rattle.hub.proofs.lent.Types.{HubType as Hb, ClosedByValueType as An, ClosedType as To}
 use Rattle.hub.proofs.lent.Free.{free-full}
 use Rattle.hub.proofs.by_value.Whole.{Whole}
 use Rattle.hub.proofs.by_value.Lend.{lends, comes-home, gives-back}
@@ -61,8 +61,8 @@ use Rattle.hub.proofs.by_value.Lend.{lends, comes-home, gives-back}
 abbrev stayed : Stays (close.ended .signature .params) (close.ended .kept)
 stayed = (stay-none (λ _. rowOf Hb) yes, (stay-none (λ _. rowOf R) yes, (stay-none (λ _. u8) yes, tt)))
 
-final : (g : Hub) (h : Reading) (n : ℕ) (t : ClosedLent) (h′ : Reading) (a : Closed) → ClosesLent g h n t h′ → a ≡ closedAnswer t h′ → ClosesByValue g h n a
-final g h n t h′ a e₁ e₂ = subst (ClosesByValue g h n) (sym e₂) e₁
+final : (g : Hub) (h : Reading) (n : ℕ) (t : Closed) (h′ : Reading) (a : ClosedByValue) → Closes g h n (t .answer) (t .hub) h′ → a ≡ closedWith t h′ → Closes g h n (a .answer) (a .hub) (a .reading)
+final g h n t h′ a e₁ e₂ = subst (λ (a′ : ClosedByValue). Closes g h n (a′ .answer) (a′ .hub) (a′ .reading)) (sym e₂) e₁
 
 module _ {M : Type 1} (𝓤 : URA M) (H : Heap 𝓤) (A : Atoms 𝓤) (mem′ : Memory → SProp 𝓤) (run : Routine → Fun 𝓤) where
   abbrev Close : Contract 𝓤
@@ -90,14 +90,14 @@ module _ {M : Type 1} (𝓤 : URA M) (H : Heap 𝓤) (A : Atoms 𝓤) (W : Given
       qed W (‵ (flft (α ∷ []) fullShare) ∷ ‵ (Ref l α γ) ∷ []) ∵ nothing ! $ owned ! u8 (Is u8) (uint-makes 𝓤 H A W w8) n _ (refl, fits) $ fjoin ! $ move ! (2 ∷ 0 ∷ []) $ fjoin ! $
       owned ! (rowOf Hb) (Is (rowOf Hb)) (makes (Hb .type) (Hb .pure) 𝓤 H A) g _ is-g $ fjoin ! $ nothing ! $ move ! (2 ∷ 0 ∷ []) $ join ! $ join ! $ frame ! $ done !
 
-  exits : (a : Closed) (w : Val) → ClosesByValue g h n a → ent 𝓤 (sem 𝓤 H A (rowOf An .own a (w ∷ []))) (Post w)
+  exits : (a : ClosedByValue) (w : Val) → Closes g h n (a .answer) (a .hub) (a .reading) → ent 𝓤 (sem 𝓤 H A (rowOf An .own a (w ∷ []))) (Post w)
   exits a w e =
       qed W (‵ (rowOf An .own a (w ∷ [])) ∷ []) ∵
       suffices ! _ (ends-at 𝓤 H A close.ended stayed (close.clauses 𝓤 H A mem′ run) W ((tt, tt, tt, x, at), tt) w a (tt, (tt, (tt, tt))) (tt, (tt, (tt, tt)))) $ says ! e $
       nothing ! $ owned ! u8 (Is u8) (uint-makes 𝓤 H A W w8) n _ (refl, fits) $ fjoin ! $ owned ! (rowOf R) (Is (rowOf R)) (makes (R .type) (R .pure) 𝓤 H A) h _ is-h $ fjoin ! $
       owned ! (rowOf Hb) (Is (rowOf Hb)) (makes (Hb .type) (Hb .pure) 𝓤 H A) g _ is-g $ fjoin ! $ nothing ! $ done !
 
-  module _ (C : Calls 𝓤 H) (Λ : Loops 𝓤 H) (fm : FmC 𝓤 H (W .laws) C) (known : Triple 𝓤 (C #service·close) (Close 𝓤 H A mem′ run)) (known-with : Triple 𝓤 (C #parts·closed-with) (Whole To R An closedAnswer 𝓤 H A)) where
+  module _ (C : Calls 𝓤 H) (Λ : Loops 𝓤 H) (fm : FmC 𝓤 H (W .laws) C) (known : Triple 𝓤 (C #close) (Close 𝓤 H A mem′ run)) (known-with : Triple 𝓤 (C #closed-with) (Whole To R An closedWith 𝓤 H A)) where
     walk : ent 𝓤 (onEntry 𝓤 H A close.signature tt tt x at) (WpFn 𝓤 H C Λ code.function (valOf Hb g ∷ valOf R h ∷ vint w8 n ∷ []) Post)
     walk =
         qed W (‵ ftrue ∷ ‵ (owns (rowOf Hb ∷ rowOf R ∷ u8 ∷ []) x at) ∷ []) ∵ enter ! C Λ code.function (valOf Hb g ∷ valOf R h ∷ vint w8 n ∷ []) _ $
@@ -109,21 +109,21 @@ module _ {M : Type 1} (𝓤 : URA M) (H : Heap 𝓤) (A : Atoms 𝓤) (W : Given
         move ! (6 ∷ []) $ lends R ! tt (named 0) l₄ h is-h (λ α γ. use2 W (raw (Close 𝓤 H A mem′ run .pre (to-close l₄ α γ))) (goes-close l₄ α γ) $
         -- [what the call asks; the lender's part; _7; …; _6; …; _5; …; …; _3; …; _2; …; _1; …; room for _0; …]
         calls-at ! fm (Close 𝓤 H A mem′ run) known (to-close l₄ α γ) (and-then ! (load ! (from ! (stop !)) (look ! 13 refl)) (and-then ! (load ! (from ! (stop !)) (look ! 4 refl)) (and-then ! (load ! (from ! (stop !)) (look ! 9 refl)) (no-more !)))) (λ u.
-        use1 W (later (some (λ (t : ClosedLent). ((‵ (flft (α ∷ []) fullShare) ⊛ ‵ ftrue) ⊛ ‵ (rowOf To .own t (u ∷ []))) ⊛ raw (ensured 𝓤 H A on-lent.ended (on-lent.clauses 𝓤 H A mem′ run) (to-close l₄ α γ .0 .0) (to-close l₄ α γ .0 .3) tt t)))) (id⊢ 𝓤 _) $ await ! tt $ pick ! (λ t.
+        use1 W (later (some (λ (t : Closed). ((‵ (flft (α ∷ []) fullShare) ⊛ ‵ ftrue) ⊛ ‵ (rowOf To .own t (u ∷ []))) ⊛ raw (ensured 𝓤 H A on-lent.ended (on-lent.clauses 𝓤 H A mem′ run) (to-close l₄ α γ .0 .0) (to-close l₄ α γ .0 .3) tt t)))) (id⊢ 𝓤 _) $ await ! tt $ pick ! (λ t.
         -- what the call ensures, at some last record
-        split ! $ move ! (1 ∷ []) $ use1 W (some (λ (ws : Unit {0} × (Reading × (Unit {0} × Unit {0}))). ‵ (lasts on-lent.ended (to-close l₄ α γ .0 .0) (to-close l₄ α γ .0 .3) ws) ⊛ raw (fact 𝓤 (ClosesLent g h n t (ws .1 .0))))) (id⊢ 𝓤 _) $ pick ! (λ ws.
-        split ! $ move ! (1 ∷ []) $ heard ! (ClosesLent g h n t (ws .1 .0)) (λ e₁.
+        split ! $ move ! (1 ∷ []) $ use1 W (some (λ (ws : Unit {0} × (Reading × (Unit {0} × Unit {0}))). ‵ (lasts on-lent.ended (to-close l₄ α γ .0 .0) (to-close l₄ α γ .0 .3) ws) ⊛ raw (fact 𝓤 (Closes g h n (t .answer) (t .hub) (ws .1 .0))))) (id⊢ 𝓤 _) $ pick ! (λ ws.
+        split ! $ move ! (1 ∷ []) $ heard ! (Closes g h n (t .answer) (t .hub) (ws .1 .0)) (λ e₁.
         fsplit ! $ drop ! $ fsplit ! $ move ! (1 ∷ []) $ drop ! $ move ! (1 ∷ []) $ split ! $ split ! $ move ! (2 ∷ []) $ facts ! (rowOf To) (Is (rowOf To)) (shows 𝓤 H A (rowOf To)) t (u ∷ []) (λ is-t.
         -- [the token; true; the last record; the lender's part; _7; …; _6; …; _5; …]
         land ! (from ! (stop !)) (init ! 8 refl (typed To 𝓤 H A W t u is-t)) $ move ! (0 ∷ 3 ∷ 2 ∷ []) $ comes-home R ! tt l₄ (ws .1 .0) (λ is-h′.
         -- [_4; true; _7; …; _6; …; _5; …; …; _3; …; _2; …; _1; …; room for _0; …]
-        move ! (0 ∷ 2 ∷ 6 ∷ 15 ∷ []) $ gives-back To R An closedAnswer ! fm known-with refl refl refl t u is-t (ws .1 .0) is-h′ (λ a w e₂.
+        move ! (0 ∷ 2 ∷ 6 ∷ 15 ∷ []) $ gives-back To R An closedWith ! fm known-with refl refl refl t u is-t (ws .1 .0) is-h′ (λ a w e₂.
         -- [the result; _4; _7; _5; _0; true; …; _6; …; …; …; _3; …; _2; …; _1; …; …]
         move ! (4 ∷ 17 ∷ 15 ∷ 16 ∷ 13 ∷ 14 ∷ 11 ∷ 12 ∷ 1 ∷ 10 ∷ 3 ∷ 9 ∷ 7 ∷ 8 ∷ 2 ∷ 6 ∷ []) $ free-full ! $ free-full ! $ free-full ! $ free-full ! $ free-full ! $ free-full ! $ free-full ! $ free-full ! $ free0 ! $
         keep ! (0 ∷ []) $ by ! (exits a w (final g h n t (ws .1 .0) a e₁ e₂))))))))))))))))))
 
 close-meets : {M : Type 1} (𝓤 : URA M) (H : Heap 𝓤) (A : Atoms 𝓤) (W : Given 𝓤 H A) (mem′ : Memory → SProp 𝓤) (run : Routine → Fun 𝓤) (𝓣 : Tables 𝓤 H)
-    → Triple 𝓤 (𝓣 .C #service·close) (Close 𝓤 H A mem′ run) → Triple 𝓤 (𝓣 .C #parts·closed-with) (Whole To R An closedAnswer 𝓤 H A)
+    → Triple 𝓤 (𝓣 .C #close) (Close 𝓤 H A mem′ run) → Triple 𝓤 (𝓣 .C #closed-with) (Whole To R An closedWith 𝓤 H A)
     → Meets 𝓤 H A close.signature (WpFn 𝓤 H (𝓣 .C) (𝓣 .Λ) code.function) (close.spec 𝓤 H A mem′ run)
 close-meets 𝓤 H A W mem′ run 𝓣 known known-with =
     walk-meets 𝓤 H A close.ended stayed W (goes-none 𝓤 H A W 0 (λ _. rowOf Hb) yes (λ κs x f. refl), (goes-none 𝓤 H A W 0 (λ _. rowOf R) yes (λ κs x f. refl), (goes-none 𝓤 H A W 0 (λ _. u8) yes (λ κs x f. refl), tt)))
@@ -136,7 +136,7 @@ pub close-by-value-spec : {M : Type 1} → stated.statement M
 unfolding code.routine tablesOf
 close-by-value-spec 𝓤 H 𝓜 𝓖 𝓡 =
     entered 𝓤 H (tripleOf 𝓤 H (𝓖 .A) close.signature (close.spec 𝓤 H (𝓖 .A) (𝓜 .mem) (𝓡 .run)))
-    (tables 𝓤 H 𝓜 𝓡 code.env .C) (tables 𝓤 H 𝓜 𝓡 code.env .Λ) #lending·close code.function (code.unfolded 𝓤 H 𝓜 𝓡)
+    (tables 𝓤 H 𝓜 𝓡 code.env .C) (tables 𝓤 H 𝓜 𝓡 code.env .Λ) #close-by-value code.function (code.unfolded 𝓤 H 𝓜 𝓡)
     (close-meets 𝓤 H (𝓖 .A) (givenOf 𝓤 H 𝓜 𝓖) (𝓜 .mem) (𝓡 .run) (tablesOf 𝓤 H 𝓜 (tables 𝓤 H 𝓜 𝓡 code.env))
-    (cited 𝓤 H (Close 𝓤 H (𝓖 .A) (𝓜 .mem) (𝓡 .run)) 𝓜 𝓡 code.env #service·close on-lent-def.routine code.calls-hub·lent·close (on-lent-thm.met 𝓤 H 𝓜 𝓖 𝓡))
-    (cited 𝓤 H (Whole To R An closedAnswer 𝓤 H (𝓖 .A)) 𝓜 𝓡 code.env #parts·closed-with with-def.routine code.calls-hub·parts·closed-with (with-thm.met 𝓤 H 𝓜 𝓖 𝓡)))
+    (cited 𝓤 H (Close 𝓤 H (𝓖 .A) (𝓜 .mem) (𝓡 .run)) 𝓜 𝓡 code.env #close on-lent-def.routine code.calls-hub·lent·close (on-lent-thm.met 𝓤 H 𝓜 𝓖 𝓡))
+    (cited 𝓤 H (Whole To R An closedWith 𝓤 H (𝓖 .A)) 𝓜 𝓡 code.env #closed-with with-def.routine code.calls-hub·by-value·closed-with (with-thm.met 𝓤 H 𝓜 𝓖 𝓡)))

@@ -1,5 +1,5 @@
--- `lending::feed` meets its contract: a walk of its MIR, by hand. Table and room are passed on for good, at their own lifetimes; the record is
--- put into a local and lent to `service::feed` for a lifetime that is made for the call. All that the walk knows of the two callees is that each
+-- `feed_by_value` meets its contract: a walk of its MIR, by hand. Table and room are passed on for good, at their own lifetimes; the record is
+-- put into a local and lent to `feed` for a lifetime that is made for the call. All that the walk knows of the two callees is that each
 -- meets its contract.
 -- Assumes nothing.
 use mathlib.Core.Path.{_≡_, refl, sym, subst}
@@ -41,24 +41,24 @@ use denote.Exit.{yes}
 use denote.Triple.Clauses.{ensured, lasts}
 use Rattle.line.specs.declared.Reading.{Reading}
 use Rattle.rules.specs.declared.Hub.{Hub}
+use Rattle.rules.specs.declared.FedByValue.{FedByValue}
+use Rattle.rules.specs.Promises.{Feeds}
 use Rattle.rules.specs.declared.Fed.{Fed}
-use Rattle.rules.specs.LinePromises.{FeedsByValue}
-use Rattle.rules.specs.declared.FedLent.{FedLent}
-use Rattle.rules.specs.Lent.{fedAnswer, FeedsLent}
+use Rattle.hub.specs.Parts.{fedWith}
 use Rattle.line.proofs.Part.{rowOf, valOf, valsOf, typed}
 use Rattle.line.proofs.OnRecord.{R}
 use Rattle.hub.proofs.lent.feed as on-lent
 use Rattle.hub.proofs.lent.feed.Symbol as on-lent-def
-use Rattle.hub.proofs.lent.feed.Symbol.{name as #service·feed}
+use Rattle.hub.proofs.lent.feed.Symbol.{name as #feed}
 use Rattle.hub.proofs.lent.feed.Met as on-lent-thm
-use Rattle.hub.proofs.parts.fed_with.Symbol as with-def
-use Rattle.hub.proofs.parts.fed_with.Symbol.{name as #parts·fed-with}
-use Rattle.hub.proofs.parts.fed_with.Met as with-thm
-use Rattle.hub.proofs.by_value.feed_by_value.Key.{name as #lending·feed}
+use Rattle.hub.proofs.by_value.fed_with.Symbol as with-def
+use Rattle.hub.proofs.by_value.fed_with.Symbol.{name as #fed-with}
+use Rattle.hub.proofs.by_value.fed_with.Met as with-thm
+use Rattle.hub.proofs.by_value.feed_by_value.Key.{name as #feed-by-value}
 use Rattle.hub.proofs.by_value.feed_by_value as feed
 use Rattle.hub.proofs.by_value.feed_by_value.Statement as stated
 use Rattle.hub.proofs.by_value.feed_by_value.Code as code
-use Rattle.hub.proofs.lent.Types.{HubType as Hb, FedType as An, FedLentType as To}
+use Rattle.hub.proofs.lent.Types.{HubType as Hb, FedByValueType as An, FedType as To}
 use Rattle.hub.proofs.lent.Free.{free-full}
 use Rattle.hub.proofs.by_value.Whole.{Whole}
 use Rattle.hub.proofs.by_value.Lend.{lends, comes-home, gives-back}
@@ -75,9 +75,9 @@ stayed = (
   ),
 )
 
-final : (g : Hub) (t : List ℕ) (h : Reading) (n : ℕ) (bytes room : List ℕ) (r : FedLent) (t′ : List ℕ) (h′ : Reading) (room′ : List ℕ) (a : Fed)
-    → FeedsLent g t h n bytes room r t′ h′ room′ → a ≡ fedAnswer r h′ → FeedsByValue g t h n bytes room a t′ room′
-final g t h n bytes room r t′ h′ room′ a e₁ e₂ = subst (λ (a′ : Fed). FeedsByValue g t h n bytes room a′ t′ room′) (sym e₂) e₁
+final : (g : Hub) (t : List ℕ) (h : Reading) (n : ℕ) (bytes room : List ℕ) (r : Fed) (t′ : List ℕ) (h′ : Reading) (room′ : List ℕ) (a : FedByValue)
+    → Feeds g t h n bytes room (r .answer) (r .hub) t′ h′ room′ → a ≡ fedWith r h′ → Feeds g t h n bytes room (a .answer) (a .hub) t′ (a .reading) room′
+final g t h n bytes room r t′ h′ room′ a e₁ e₂ = subst (λ (a′ : FedByValue). Feeds g t h n bytes room (a′ .answer) (a′ .hub) t′ (a′ .reading) room′) (sym e₂) e₁
 
 module _ {M : Type 1} (𝓤 : URA M) (H : Heap 𝓤) (A : Atoms 𝓤) (mem′ : Memory → SProp 𝓤) (run : Routine → Fun 𝓤) where
   abbrev Feed : Contract 𝓤
@@ -135,7 +135,7 @@ module _ {M : Type 1} (𝓤 : URA M) (H : Heap 𝓤) (A : Atoms 𝓤) (W : Given
       move ! (2 ∷ []) $ split ! $ move ! (3 ∷ 1 ∷ []) $ join ! $ move ! (1 ∷ 0 ∷ []) $ join ! $ use2 W (raw (Feed 𝓤 H A mem′ run .pre (to-feed l α γ)))
       (qed W (Called α ∷ ‵ (owns (rowOf Hb ∷ MutSlice (named 0) κ₀ u8 ∷ MutRef (named 1) (α ∷ []) (rowOf R) ∷ u8 ∷ ShrSlice (named 2) κ₁ u8 ∷ MutSlice (named 3) κ₂ u8 ∷ []) (to-feed l α γ .0 .3) (to-feed l α γ .0 .4)) ∷ []) ∵ join ! $ frame ! $ done !) $ frame ! $ done !
 
-  exits : (a : Fed) (w : Val) (t′ room′ : List ℕ) → length t′ ≡ length (now tb) → length room′ ≡ length (now rm) → FeedsByValue g (now tb) h n (now bs) (now rm) a t′ room′
+  exits : (a : FedByValue) (w : Val) (t′ room′ : List ℕ) → length t′ ≡ length (now tb) → length room′ ≡ length (now rm) → Feeds g (now tb) h n (now bs) (now rm) (a .answer) (a .hub) t′ (a .reading) room′
       → ent 𝓤 (⋆ 𝓤 H A (‵ (rowOf An .own a (w ∷ [])) ∷ Tokens ∷ ‵ (finally u8 (rm .name) room′) ∷ ‵ (finally u8 (tb .name) t′) ∷ ‵ Bytes ∷ [])) (Post w)
   exits a w t′ room′ lt lr e =
       qed W (‵ (rowOf An .own a (w ∷ [])) ∷ Tokens ∷ ‵ (finally u8 (rm .name) room′) ∷ ‵ (finally u8 (tb .name) t′) ∷ ‵ Bytes ∷ []) ∵
@@ -146,7 +146,7 @@ module _ {M : Type 1} (𝓤 : URA M) (H : Heap 𝓤) (A : Atoms 𝓤) (W : Given
       owned ! (rowOf R) (Is (rowOf R)) (makes (R .type) (R .pure) 𝓤 H A) h _ is-h $ fjoin ! $ move ! (2 ∷ 0 ∷ []) $ fjoin ! $
       owned ! (rowOf Hb) (Is (rowOf Hb)) (makes (Hb .type) (Hb .pure) 𝓤 H A) g _ is-g $ fjoin ! $ frame ! $ done !
 
-  module _ (C : Calls 𝓤 H) (Λ : Loops 𝓤 H) (fm : FmC 𝓤 H (W .laws) C) (known : Triple 𝓤 (C #service·feed) (Feed 𝓤 H A mem′ run)) (known-with : Triple 𝓤 (C #parts·fed-with) (Whole To R An fedAnswer 𝓤 H A)) where
+  module _ (C : Calls 𝓤 H) (Λ : Loops 𝓤 H) (fm : FmC 𝓤 H (W .laws) C) (known : Triple 𝓤 (C #feed) (Feed 𝓤 H A mem′ run)) (known-with : Triple 𝓤 (C #fed-with) (Whole To R An fedWith 𝓤 H A)) where
     walk : Is (MutSlice (named 0) κ₀ u8) tb (slice tb ∷ []) → Is (ShrSlice (named 1) κ₁ u8) bs (slice bs ∷ []) → Is (MutSlice (named 2) κ₂ u8) rm (slice rm ∷ [])
         → ent 𝓤 (onEntry 𝓤 H A feed.signature (κ₀, (κ₁, (κ₂, tt))) (q₀, (q₁, (q₂, tt))) x at) (WpFn 𝓤 H C Λ code.function (valOf Hb g ∷ slice tb ∷ valOf R h ∷ vint w8 n ∷ slice bs ∷ slice rm ∷ []) Post)
     walk is-t is-b is-r =
@@ -170,10 +170,10 @@ module _ {M : Type 1} (𝓤 : URA M) (H : Heap 𝓤) (A : Atoms 𝓤) (W : Given
         -- [what the call asks; bytes; the lender's part; _14; …; _13; …; _12; …; _11; …; _10; …; _9; …; _8; …; …; _6; …; _5; …; _4; …; _3; …; _2; …; _1; …; room for _0; …]
         calls-at ! fm (Feed 𝓤 H A mem′ run) known (to-feed l₇ α γ)
         (and-then ! (load ! (from ! (stop !)) (look ! 28 refl)) (and-then ! (load ! (from ! (stop !)) (look ! 11 refl)) (and-then ! (load ! (from ! (stop !)) (look ! 9 refl)) (and-then ! (load ! (from ! (stop !)) (look ! 22 refl)) (and-then ! (load ! (from ! (stop !)) (look ! 20 refl)) (and-then ! (load ! (from ! (stop !)) (look ! 5 refl)) (no-more !))))))) (λ u.
-        use1 W (later (some (λ (r : FedLent). (Called α ⊛ ‵ (rowOf To .own r (u ∷ []))) ⊛ raw (ensured 𝓤 H A on-lent.ended (on-lent.clauses 𝓤 H A mem′ run) (to-feed l₇ α γ .0 .0) (to-feed l₇ α γ .0 .3) tt r)))) (id⊢ 𝓤 _) $ await ! tt $ pick ! (λ r.
+        use1 W (later (some (λ (r : Fed). (Called α ⊛ ‵ (rowOf To .own r (u ∷ []))) ⊛ raw (ensured 𝓤 H A on-lent.ended (on-lent.clauses 𝓤 H A mem′ run) (to-feed l₇ α γ .0 .0) (to-feed l₇ α γ .0 .3) tt r)))) (id⊢ 𝓤 _) $ await ! tt $ pick ! (λ r.
         -- what the call ensures, at some last table, record and room
-        split ! $ move ! (1 ∷ []) $ use1 W (some (λ (ws : Unit {0} × (List ℕ × (Reading × (Unit {0} × (Unit {0} × (List ℕ × Unit {0})))))). ‵ (lasts on-lent.ended (to-feed l₇ α γ .0 .0) (to-feed l₇ α γ .0 .3) ws) ⊛ raw (fact 𝓤 (FeedsLent g (now tb) h n (now bs) (now rm) r (ws .1 .0) (ws .1 .1 .0) (ws .1 .1 .1 .1 .1 .0))))) (id⊢ 𝓤 _) $ pick ! (λ ws.
-        split ! $ move ! (1 ∷ []) $ heard ! (FeedsLent g (now tb) h n (now bs) (now rm) r (ws .1 .0) (ws .1 .1 .0) (ws .1 .1 .1 .1 .1 .0)) (λ e₁.
+        split ! $ move ! (1 ∷ []) $ use1 W (some (λ (ws : Unit {0} × (List ℕ × (Reading × (Unit {0} × (Unit {0} × (List ℕ × Unit {0})))))). ‵ (lasts on-lent.ended (to-feed l₇ α γ .0 .0) (to-feed l₇ α γ .0 .3) ws) ⊛ raw (fact 𝓤 (Feeds g (now tb) h n (now bs) (now rm) (r .answer) (r .hub) (ws .1 .0) (ws .1 .1 .0) (ws .1 .1 .1 .1 .1 .0))))) (id⊢ 𝓤 _) $ pick ! (λ ws.
+        split ! $ move ! (1 ∷ []) $ heard ! (Feeds g (now tb) h n (now bs) (now rm) (r .answer) (r .hub) (ws .1 .0) (ws .1 .1 .0) (ws .1 .1 .1 .1 .1 .0)) (λ e₁.
         fsplit ! $ drop ! $ fsplit ! $ fsplit ! $ move ! (1 ∷ []) $ feqL ! (λ lt. move ! (1 ∷ []) $ fsplit ! $ move ! (1 ∷ []) $ fsplit ! $ drop ! $ fsplit ! $ drop ! $ fsplit ! $ fsplit ! $ move ! (1 ∷ []) $ feqL ! (λ lr. move ! (1 ∷ []) $ drop ! $
         -- [the room's last list; the last record; the table's last list; the tokens and what was told; bytes; the lender's part; _14; …]
         move ! (3 ∷ []) $ split ! $ move ! (1 ∷ []) $ facts ! (rowOf To) (Is (rowOf To)) (shows 𝓤 H A (rowOf To)) r (u ∷ []) (λ is-told.
@@ -182,14 +182,14 @@ module _ {M : Type 1} (𝓤 : URA M) (H : Heap 𝓤) (A : Atoms 𝓤) (W : Given
         -- [the tokens; the record's; the room's last list; the last record; the table's last list; bytes; the lender's part; _14; …]
         move ! (1 ∷ 6 ∷ 3 ∷ []) $ comes-home R ! tt l₇ (ws .1 .1 .0) (λ is-h′.
         -- [_7; the tokens; the last lists; bytes; _14; …; _13; …; _12; …; _11; …; _10; …; _9; …; _8; …; …; _6; …; _5; …; _4; …; _3; …; _2; …; _1; …; room for _0; …]
-        move ! (0 ∷ 5 ∷ 17 ∷ 32 ∷ []) $ gives-back To R An fedAnswer ! fm known-with refl refl refl r u is-told (ws .1 .1 .0) is-h′ (λ a w e₂.
+        move ! (0 ∷ 5 ∷ 17 ∷ 32 ∷ []) $ gives-back To R An fedWith ! fm known-with refl refl refl r u is-told (ws .1 .1 .0) is-h′ (λ a w e₂.
         -- [the result; _7; _14; _8; _0; the tokens; the last lists; bytes; …; _13; …; _12; …; _11; …; _10; …; _9; …; …; …; _6; …; _5; …; _4; …; _3; …; _2; …; _1; …; …]
         move ! (4 ∷ 34 ∷ 32 ∷ 33 ∷ 30 ∷ 31 ∷ 28 ∷ 29 ∷ 26 ∷ 27 ∷ 24 ∷ 25 ∷ 22 ∷ 23 ∷ 1 ∷ 21 ∷ 3 ∷ 20 ∷ 18 ∷ 19 ∷ 16 ∷ 17 ∷ 14 ∷ 15 ∷ 12 ∷ 13 ∷ 10 ∷ 11 ∷ 2 ∷ 9 ∷ []) $
         free-full ! $ free-full ! $ free-full ! $ free-full ! $ free-full ! $ free-full ! $ free-full ! $ free-full ! $ free-full ! $ free-full ! $ free-full ! $ free-full ! $ free-full ! $ free-full ! $ free-full ! $ free0 ! $
         by ! (exits a w (ws .1 .0) (ws .1 .1 .1 .1 .1 .0) lt lr (final g (now tb) h n (now bs) (now rm) r (ws .1 .0) (ws .1 .1 .0) (ws .1 .1 .1 .1 .1 .0) a e₁ e₂)))))))))))))))))))))))))))
 
 feed-meets : {M : Type 1} (𝓤 : URA M) (H : Heap 𝓤) (A : Atoms 𝓤) (W : Given 𝓤 H A) (mem′ : Memory → SProp 𝓤) (run : Routine → Fun 𝓤) (𝓣 : Tables 𝓤 H)
-    → Triple 𝓤 (𝓣 .C #service·feed) (Feed 𝓤 H A mem′ run) → Triple 𝓤 (𝓣 .C #parts·fed-with) (Whole To R An fedAnswer 𝓤 H A)
+    → Triple 𝓤 (𝓣 .C #feed) (Feed 𝓤 H A mem′ run) → Triple 𝓤 (𝓣 .C #fed-with) (Whole To R An fedWith 𝓤 H A)
     → Meets 𝓤 H A feed.signature (WpFn 𝓤 H (𝓣 .C) (𝓣 .Λ) code.function) (feed.spec 𝓤 H A mem′ run)
 feed-meets 𝓤 H A W mem′ run 𝓣 known known-with =
     walk-meets 𝓤 H A feed.ended stayed W (
@@ -214,7 +214,7 @@ pub feed-by-value-spec : {M : Type 1} → stated.statement M
 unfolding code.routine tablesOf
 feed-by-value-spec 𝓤 H 𝓜 𝓖 𝓡 =
     entered 𝓤 H (tripleOf 𝓤 H (𝓖 .A) feed.signature (feed.spec 𝓤 H (𝓖 .A) (𝓜 .mem) (𝓡 .run)))
-    (tables 𝓤 H 𝓜 𝓡 code.env .C) (tables 𝓤 H 𝓜 𝓡 code.env .Λ) #lending·feed code.function (code.unfolded 𝓤 H 𝓜 𝓡)
+    (tables 𝓤 H 𝓜 𝓡 code.env .C) (tables 𝓤 H 𝓜 𝓡 code.env .Λ) #feed-by-value code.function (code.unfolded 𝓤 H 𝓜 𝓡)
     (feed-meets 𝓤 H (𝓖 .A) (givenOf 𝓤 H 𝓜 𝓖) (𝓜 .mem) (𝓡 .run) (tablesOf 𝓤 H 𝓜 (tables 𝓤 H 𝓜 𝓡 code.env))
-    (cited 𝓤 H (Feed 𝓤 H (𝓖 .A) (𝓜 .mem) (𝓡 .run)) 𝓜 𝓡 code.env #service·feed on-lent-def.routine code.calls-hub·lent·feed (on-lent-thm.met 𝓤 H 𝓜 𝓖 𝓡))
-    (cited 𝓤 H (Whole To R An fedAnswer 𝓤 H (𝓖 .A)) 𝓜 𝓡 code.env #parts·fed-with with-def.routine code.calls-hub·parts·fed-with (with-thm.met 𝓤 H 𝓜 𝓖 𝓡)))
+    (cited 𝓤 H (Feed 𝓤 H (𝓖 .A) (𝓜 .mem) (𝓡 .run)) 𝓜 𝓡 code.env #feed on-lent-def.routine code.calls-hub·lent·feed (on-lent-thm.met 𝓤 H 𝓜 𝓖 𝓡))
+    (cited 𝓤 H (Whole To R An fedWith 𝓤 H (𝓖 .A)) 𝓜 𝓡 code.env #fed-with with-def.routine code.calls-hub·by-value·fed-with (with-thm.met 𝓤 H 𝓜 𝓖 𝓡)))

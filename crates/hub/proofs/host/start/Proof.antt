@@ -1,6 +1,8 @@
-use Rattle.requests.specs.PasswordAt.{passwordAt-all}
+use lib.ListN.{replicate}
 use mathlib.Core.Path.{_∙_}
 use borrow.Author.Tests.{eq-eqb, ne-eqb}
+use Rattle.memory.specs.WroteLaws.{sets-whole}
+use Rattle.rules.specs.Hub.{passwordSize}
 use borrow.Author.Needs.{needs}
 use Rattle.hub.proofs.host.start.Statement.{statement}
 use Rattle.hub.proofs.host.start.Tie as tie
@@ -14,8 +16,11 @@ returns-2 c = simp (eq-eqb _ _ (c .before .if1 .left), ne-eqb _ _ (c .if2 .taken
 empty-requires : tie.Need-empty-requires
 empty-requires c κs = search needs
 
-password-at-requires : tie.Need-password-at-requires
-password-at-requires c κs = search needs
+slice-aggregate-copy : tie.Need-slice-aggregate-copy
+slice-aggregate-copy c = search needs
+
+copy-requires : tie.Need-copy-requires
+copy-requires c κs = search needs
 
 fresh-requires : tie.Need-fresh-requires
 fresh-requires c κs = search needs
@@ -24,7 +29,10 @@ same-length : tie.Need-same-length
 same-length c = search needs
 
 returns-3 : tie.Need-returns-3
-returns-3 c = simp (eq-eqb _ _ (c .before .before .before .before .before .before .before .if1 .left), eq-eqb _ _ (c .before .before .before .before .before .before .if2 .left), c .before .before .before .before .empty .ensures, c .fresh .ensures, c .before .password-at .ensures ∙ passwordAt-all (c .before .before .before .before .before .before .before .before .before .before .args .password .now) (c .before .before .before .before .before .before .if2 .left))
+returns-3 c =
+    let p = c .before .before .before .before .before .before .before .before .before .before .before .before .args .password .now in
+    let whole = c .before .before .copy .ensures ∙ sets-whole (replicate passwordSize 0) p (c .before .before .before .before .before .before .before .before .if2 .left) in
+    simp (eq-eqb _ _ (c .before .before .before .before .before .before .before .before .before .if1 .left), eq-eqb _ _ (c .before .before .before .before .before .before .before .before .if2 .left), c .before .before .before .before .before .before .empty .ensures, c .fresh .ensures, whole)
 
 pub start-spec : {M : Type 1} → statement M
 start-spec =
@@ -33,7 +41,8 @@ start-spec =
     returns
     returns-2
     empty-requires
-    password-at-requires
+    slice-aggregate-copy
+    copy-requires
     fresh-requires
     same-length
     returns-3)

@@ -1,5 +1,5 @@
--- `service::feed` meets its contract: a walk of its MIR, by hand. Table and room are passed on for good, at their own lifetimes; the record is
--- copied out, `hub::feed` is called, and of its answer the new record is stored where the record lies. All that the walk knows of the three
+-- `feed` meets its contract: a walk of its MIR, by hand. Table and room are passed on for good, at their own lifetimes; the record is
+-- copied out, `requests::call` is called, and of its answer the new record is stored where the record lies. All that the walk knows of the three
 -- callees is that each meets its contract.
 -- Assumes nothing.
 use mathlib.Core.Path.{_≡_, refl}
@@ -42,31 +42,31 @@ use denote.Exit.{yes}
 use denote.Triple.Clauses.{ensured, lasts}
 use Rattle.line.specs.declared.Reading.{Reading}
 use Rattle.rules.specs.declared.Hub.{Hub}
+use Rattle.rules.specs.declared.FedByValue.{FedByValue}
+use Rattle.rules.specs.Promises.{Feeds}
 use Rattle.rules.specs.declared.Fed.{Fed}
-use Rattle.rules.specs.LinePromises.{FeedsByValue}
-use Rattle.rules.specs.declared.FedLent.{FedLent}
-use Rattle.rules.specs.Lent.{fedTold, FeedsLent}
+use Rattle.hub.specs.Parts.{fedOf}
 use Rattle.line.proofs.Part.{rowOf, valOf, valsOf, typed, Part}
 use Rattle.line.proofs.Back.{takes-out, puts-back}
 use Rattle.line.proofs.OnRecord.{R}
-use Rattle.hub.proofs.calls.feed as by-value
-use Rattle.hub.proofs.calls.feed.Symbol as by-value-def
-use Rattle.hub.proofs.calls.feed.Symbol.{name as #hub·feed}
-use Rattle.hub.proofs.calls.feed.Met as by-value-thm
-use Rattle.hub.proofs.parts.fed_record.Symbol as record-def
-use Rattle.hub.proofs.parts.fed_record.Symbol.{name as #parts·fed-record}
-use Rattle.hub.proofs.parts.fed_record.Met as record-thm
-use Rattle.hub.proofs.parts.fed_told.Symbol as told-def
-use Rattle.hub.proofs.parts.fed_told.Symbol.{name as #parts·fed-told}
-use Rattle.hub.proofs.parts.fed_told.Met as told-thm
-use Rattle.hub.proofs.lent.feed.Key.{name as #service·feed}
+use Rattle.requests.proofs.call as by-value
+use Rattle.requests.proofs.call.Symbol as by-value-def
+use Rattle.requests.proofs.call.Symbol.{name as #call}
+use Rattle.requests.proofs.call.Met as by-value-thm
+use Rattle.hub.proofs.lent.fed_record.Symbol as record-def
+use Rattle.hub.proofs.lent.fed_record.Symbol.{name as #fed-record}
+use Rattle.hub.proofs.lent.fed_record.Met as record-thm
+use Rattle.hub.proofs.lent.fed_of.Symbol as told-def
+use Rattle.hub.proofs.lent.fed_of.Symbol.{name as #fed-of}
+use Rattle.hub.proofs.lent.fed_of.Met as told-thm
+use Rattle.hub.proofs.lent.feed.Key.{name as #feed}
 use Rattle.hub.proofs.lent.feed as feed
 use Rattle.hub.proofs.lent.feed.Statement as stated
 use Rattle.hub.proofs.lent.feed.Code as code
-use Rattle.hub.proofs.lent.Types.{HubType as Hb, FedType as An, FedLentType as To}
+use Rattle.hub.proofs.lent.Types.{HubType as Hb, FedByValueType as An, FedType as To}
 use Rattle.hub.proofs.lent.Free.{free-full}
 
-abbrev record-of : Fed → Reading
+abbrev record-of : FedByValue → Reading
 record-of a = a .reading
 
 abbrev stayed : Stays (feed.ended .signature .params) (feed.ended .kept)
@@ -81,8 +81,8 @@ stayed = (
   ),
 )
 
-final : (g : Hub) (t : List ℕ) (h : Reading) (n : ℕ) (bytes room : List ℕ) (a : Fed) (t′ room′ : List ℕ) (h′ : Reading) (r : FedLent)
-    → FeedsByValue g t h n bytes room a t′ room′ → h′ ≡ a .reading → r ≡ fedTold a → FeedsLent g t h n bytes room r t′ h′ room′
+final : (g : Hub) (t : List ℕ) (h : Reading) (n : ℕ) (bytes room : List ℕ) (a : FedByValue) (t′ room′ : List ℕ) (h′ : Reading) (r : Fed)
+    → Feeds g t h n bytes room (a .answer) (a .hub) t′ (a .reading) room′ → h′ ≡ a .reading → r ≡ fedOf a → Feeds g t h n bytes room (r .answer) (r .hub) t′ h′ room′
 final g t h n bytes room a t′ room′ h′ r e₁ e₂ e₃ = rw (e₂, e₃) e₁
 
 module _ {M : Type 1} (𝓤 : URA M) (H : Heap 𝓤) (A : Atoms 𝓤) (mem′ : Memory → SProp 𝓤) (run : Routine → Fun 𝓤) where
@@ -128,7 +128,7 @@ module _ {M : Type 1} (𝓤 : URA M) (H : Heap 𝓤) (A : Atoms 𝓤) (W : Given
       move ! (2 ∷ 0 ∷ []) $ use2 W (raw (Feed 𝓤 H A mem′ run .pre to-feed))
       (qed W (Tokens ∷ ‵ (owns (rowOf Hb ∷ MutSlice (named 0) κ₀ u8 ∷ rowOf R ∷ u8 ∷ ShrSlice (named 1) κ₂ u8 ∷ MutSlice (named 2) κ₃ u8 ∷ []) (to-feed .0 .3) (to-feed .0 .4)) ∷ []) ∵ join ! $ frame ! $ done !) $ frame ! $ done !
 
-  exits : (h′ : Reading) (r : FedLent) (u : Val) (t′ room′ : List ℕ) → length t′ ≡ length (now tb) → length room′ ≡ length (now rm) → FeedsLent g (now tb) h n (now bs) (now rm) r t′ h′ room′
+  exits : (h′ : Reading) (r : Fed) (u : Val) (t′ room′ : List ℕ) → length t′ ≡ length (now tb) → length room′ ≡ length (now rm) → Feeds g (now tb) h n (now bs) (now rm) (r .answer) (r .hub) t′ h′ room′
       → ent 𝓤 (⋆ 𝓤 H A (‵ (rowOf To .own r (u ∷ [])) ∷ ‵ (fobs γ (rowOf R .coded .code h′)) ∷ ‵ (fbor κ₁ (Body (mem (rowOf R)) b o γ)) ∷ ‵ (flft κ₁ q₁) ∷ Tokens ∷ ‵ (finally u8 (rm .name) room′) ∷ ‵ (finally u8 (tb .name) t′) ∷ ‵ Bytes ∷ [])) (Post u)
   exits h′ r u t′ room′ lt lr e =
       qed W (‵ (rowOf To .own r (u ∷ [])) ∷ ‵ (fobs γ (rowOf R .coded .code h′)) ∷ ‵ (fbor κ₁ (Body (mem (rowOf R)) b o γ)) ∷ ‵ (flft κ₁ q₁) ∷ Tokens ∷ ‵ (finally u8 (rm .name) room′) ∷ ‵ (finally u8 (tb .name) t′) ∷ ‵ Bytes ∷ []) ∵
@@ -139,7 +139,7 @@ module _ {M : Type 1} (𝓤 : URA M) (H : Heap 𝓤) (A : Atoms 𝓤) (W : Given
       move ! (2 ∷ 3 ∷ []) $ feqI ! (List Val) (vptr b o ∷ []) (vptr b o ∷ []) refl $ fjoin3 ! $ fjoin ! $ move ! (2 ∷ 0 ∷ []) $ fjoin ! $
       owned ! (rowOf Hb) (Is (rowOf Hb)) (makes (Hb .type) (Hb .pure) 𝓤 H A) g _ is-g $ fjoin ! $ frame ! $ done !
 
-  module _ (C : Calls 𝓤 H) (Λ : Loops 𝓤 H) (fm : FmC 𝓤 H (W .laws) C) (known : Triple 𝓤 (C #hub·feed) (Feed 𝓤 H A mem′ run)) (known-record : Triple 𝓤 (C #parts·fed-record) (Part An R record-of 𝓤 H A)) (known-told : Triple 𝓤 (C #parts·fed-told) (Part An To fedTold 𝓤 H A)) where
+  module _ (C : Calls 𝓤 H) (Λ : Loops 𝓤 H) (fm : FmC 𝓤 H (W .laws) C) (known : Triple 𝓤 (C #call) (Feed 𝓤 H A mem′ run)) (known-record : Triple 𝓤 (C #fed-record) (Part An R record-of 𝓤 H A)) (known-told : Triple 𝓤 (C #fed-of) (Part An To fedOf 𝓤 H A)) where
     walk : Is (MutSlice (named 0) κ₀ u8) tb (slice tb ∷ []) → Is (ShrSlice (named 2) κ₂ u8) bs (slice bs ∷ []) → Is (MutSlice (named 3) κ₃ u8) rm (slice rm ∷ [])
         → ent 𝓤 (onEntry 𝓤 H A feed.signature (κ₀, (κ₁, (κ₂, (κ₃, tt)))) (q₀, (q₁, (q₂, (q₃, tt)))) x at) (WpFn 𝓤 H C Λ code.function (valOf Hb g ∷ slice tb ∷ vptr b o ∷ vint w8 n ∷ slice bs ∷ slice rm ∷ []) Post)
     walk is-t is-b is-r =
@@ -162,22 +162,22 @@ module _ {M : Type 1} (𝓤 : URA M) (H : Heap 𝓤) (A : Atoms 𝓤) (W : Given
         -- [what the call asks; bytes; the record's cell; the open borrow; obs; auth; _10; _3; _12; …]
         calls-at ! fm (Feed 𝓤 H A mem′ run) known to-feed
         (and-then ! (load ! (from ! (stop !)) (look ! 28 refl)) (and-then ! (load ! (from ! (stop !)) (look ! 13 refl)) (and-then ! (load ! (from ! (stop !)) (look ! 6 refl)) (and-then ! (load ! (from ! (stop !)) (look ! 23 refl)) (and-then ! (load ! (from ! (stop !)) (look ! 21 refl)) (and-then ! (load ! (from ! (stop !)) (look ! 8 refl)) (no-more !))))))) (λ u.
-        use1 W (later (some (λ (a : Fed). (Tokens ⊛ ‵ (rowOf An .own a (u ∷ []))) ⊛ raw (ensured 𝓤 H A by-value.ended (by-value.clauses 𝓤 H A mem′ run) (to-feed .0 .0) (to-feed .0 .3) tt a)))) (id⊢ 𝓤 _) $ await ! tt $ pick ! (λ a.
+        use1 W (later (some (λ (a : FedByValue). (Tokens ⊛ ‵ (rowOf An .own a (u ∷ []))) ⊛ raw (ensured 𝓤 H A by-value.ended (by-value.clauses 𝓤 H A mem′ run) (to-feed .0 .0) (to-feed .0 .3) tt a)))) (id⊢ 𝓤 _) $ await ! tt $ pick ! (λ a.
         -- what the call ensures, at some last table and room
-        split ! $ move ! (1 ∷ []) $ use1 W (some (λ (ws : Unit {0} × (List ℕ × (Unit {0} × (Unit {0} × (Unit {0} × (List ℕ × Unit {0})))))). ‵ (lasts by-value.ended (to-feed .0 .0) (to-feed .0 .3) ws) ⊛ raw (fact 𝓤 (FeedsByValue g (now tb) h n (now bs) (now rm) a (ws .1 .0) (ws .1 .1 .1 .1 .1 .0))))) (id⊢ 𝓤 _) $ pick ! (λ ws.
-        split ! $ move ! (1 ∷ []) $ heard ! (FeedsByValue g (now tb) h n (now bs) (now rm) a (ws .1 .0) (ws .1 .1 .1 .1 .1 .0)) (λ e₁.
+        split ! $ move ! (1 ∷ []) $ use1 W (some (λ (ws : Unit {0} × (List ℕ × (Unit {0} × (Unit {0} × (Unit {0} × (List ℕ × Unit {0})))))). ‵ (lasts by-value.ended (to-feed .0 .0) (to-feed .0 .3) ws) ⊛ raw (fact 𝓤 (Feeds g (now tb) h n (now bs) (now rm) (a .answer) (a .hub) (ws .1 .0) (a .reading) (ws .1 .1 .1 .1 .1 .0))))) (id⊢ 𝓤 _) $ pick ! (λ ws.
+        split ! $ move ! (1 ∷ []) $ heard ! (Feeds g (now tb) h n (now bs) (now rm) (a .answer) (a .hub) (ws .1 .0) (a .reading) (ws .1 .1 .1 .1 .1 .0)) (λ e₁.
         fsplit ! $ drop ! $ fsplit ! $ fsplit ! $ move ! (1 ∷ []) $ feqL ! (λ lt. move ! (1 ∷ []) $ fsplit ! $ drop ! $ fsplit ! $ drop ! $ fsplit ! $ drop ! $ fsplit ! $ fsplit ! $ move ! (1 ∷ []) $ feqL ! (λ lr. move ! (1 ∷ []) $ drop ! $
         move ! (2 ∷ []) $ split ! $ move ! (1 ∷ []) $ facts ! (rowOf An) (Is (rowOf An)) (shows 𝓤 H A (rowOf An)) a (u ∷ []) (λ is-a.
         -- [the tokens; the room's last list; the table's; bytes; the record's cell; the open borrow; obs; auth; _10; _3; _12; …; _11; …; …; _9; …; _8; …; _7; …; _6; …; _5; …; _4; …; …; _2; …; _1; …; room for _0; …]
         land ! (from ! (stop !)) (init ! 19 refl (typed An 𝓤 H A W a u is-a)) $
-        move ! (4 ∷ 5 ∷ 6 ∷ 7 ∷ 8 ∷ 19 ∷ 9 ∷ 32 ∷ []) $ puts-back R An To record-of fedTold ! fm known-record known-told refl refl refl a u is-a (λ h′ v r w e₂ e₃.
+        move ! (4 ∷ 5 ∷ 6 ∷ 7 ∷ 8 ∷ 19 ∷ 9 ∷ 32 ∷ []) $ puts-back R An To record-of fedOf ! fm known-record known-told refl refl refl a u is-a (λ h′ v r w e₂ e₃.
         -- [the result; obs; the borrow; its token; _10; _7; _3; _0; the tokens; the last lists; bytes; _12; …; _11; …; …; _9; …; _8; …; …; _6; …; _5; …; _4; …; …; _2; …; _1; …; …]
         move ! (7 ∷ 33 ∷ 31 ∷ 32 ∷ 29 ∷ 30 ∷ 6 ∷ 28 ∷ 26 ∷ 27 ∷ 24 ∷ 25 ∷ 22 ∷ 23 ∷ 5 ∷ 21 ∷ 19 ∷ 20 ∷ 17 ∷ 18 ∷ 4 ∷ 16 ∷ 14 ∷ 15 ∷ 12 ∷ 13 ∷ []) $
         free-full ! $ free-full ! $ free-full ! $ free-full ! $ free-full ! $ free-full ! $ free-full ! $ free-full ! $ free-full ! $ free-full ! $ free-full ! $ free-full ! $ free-full ! $ free0 ! $
         by ! (exits h′ r w (ws .1 .0) (ws .1 .1 .1 .1 .1 .0) lt lr (final g (now tb) h n (now bs) (now rm) a (ws .1 .0) (ws .1 .1 .1 .1 .1 .0) h′ r e₁ e₂ e₃))))))))))))))))))))))))
 
 feed-meets : {M : Type 1} (𝓤 : URA M) (H : Heap 𝓤) (A : Atoms 𝓤) (W : Given 𝓤 H A) (mem′ : Memory → SProp 𝓤) (run : Routine → Fun 𝓤) (𝓣 : Tables 𝓤 H)
-    → Triple 𝓤 (𝓣 .C #hub·feed) (Feed 𝓤 H A mem′ run) → Triple 𝓤 (𝓣 .C #parts·fed-record) (Part An R record-of 𝓤 H A) → Triple 𝓤 (𝓣 .C #parts·fed-told) (Part An To fedTold 𝓤 H A)
+    → Triple 𝓤 (𝓣 .C #call) (Feed 𝓤 H A mem′ run) → Triple 𝓤 (𝓣 .C #fed-record) (Part An R record-of 𝓤 H A) → Triple 𝓤 (𝓣 .C #fed-of) (Part An To fedOf 𝓤 H A)
     → Meets 𝓤 H A feed.signature (WpFn 𝓤 H (𝓣 .C) (𝓣 .Λ) code.function) (feed.spec 𝓤 H A mem′ run)
 feed-meets 𝓤 H A W mem′ run 𝓣 known known-record known-told =
     walk-meets 𝓤 H A feed.ended stayed W (
@@ -202,8 +202,8 @@ pub feed-spec : {M : Type 1} → stated.statement M
 unfolding code.routine tablesOf
 feed-spec 𝓤 H 𝓜 𝓖 𝓡 =
     entered 𝓤 H (tripleOf 𝓤 H (𝓖 .A) feed.signature (feed.spec 𝓤 H (𝓖 .A) (𝓜 .mem) (𝓡 .run)))
-    (tables 𝓤 H 𝓜 𝓡 code.env .C) (tables 𝓤 H 𝓜 𝓡 code.env .Λ) #service·feed code.function (code.unfolded 𝓤 H 𝓜 𝓡)
+    (tables 𝓤 H 𝓜 𝓡 code.env .C) (tables 𝓤 H 𝓜 𝓡 code.env .Λ) #feed code.function (code.unfolded 𝓤 H 𝓜 𝓡)
     (feed-meets 𝓤 H (𝓖 .A) (givenOf 𝓤 H 𝓜 𝓖) (𝓜 .mem) (𝓡 .run) (tablesOf 𝓤 H 𝓜 (tables 𝓤 H 𝓜 𝓡 code.env))
-    (cited 𝓤 H (Feed 𝓤 H (𝓖 .A) (𝓜 .mem) (𝓡 .run)) 𝓜 𝓡 code.env #hub·feed by-value-def.routine code.calls-hub·calls·feed (by-value-thm.met 𝓤 H 𝓜 𝓖 𝓡))
-    (cited 𝓤 H (Part An R record-of 𝓤 H (𝓖 .A)) 𝓜 𝓡 code.env #parts·fed-record record-def.routine code.calls-hub·parts·fed-record (record-thm.met 𝓤 H 𝓜 𝓖 𝓡))
-    (cited 𝓤 H (Part An To fedTold 𝓤 H (𝓖 .A)) 𝓜 𝓡 code.env #parts·fed-told told-def.routine code.calls-hub·parts·fed-told (told-thm.met 𝓤 H 𝓜 𝓖 𝓡)))
+    (cited 𝓤 H (Feed 𝓤 H (𝓖 .A) (𝓜 .mem) (𝓡 .run)) 𝓜 𝓡 code.env #call by-value-def.routine code.calls-requests·call (by-value-thm.met 𝓤 H 𝓜 𝓖 𝓡))
+    (cited 𝓤 H (Part An R record-of 𝓤 H (𝓖 .A)) 𝓜 𝓡 code.env #fed-record record-def.routine code.calls-hub·lent·fed-record (record-thm.met 𝓤 H 𝓜 𝓖 𝓡))
+    (cited 𝓤 H (Part An To fedOf 𝓤 H (𝓖 .A)) 𝓜 𝓡 code.env #fed-of told-def.routine code.calls-hub·lent·fed-of (told-thm.met 𝓤 H 𝓜 𝓖 𝓡)))

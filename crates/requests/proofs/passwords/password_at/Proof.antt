@@ -1,15 +1,18 @@
-use Rattle.memory.specs.WroteLaws.{rest}
-use lib.ListN.{drop-of-length-le}
-use mathlib.Core.Path.{_∙_}
+use Prim.Native.Nat.{_+_, _-_}
+use mathlib.Core.Path.{_≡_, _∙_}
+use native.Mathlib.Omega.{arith}
+use lib.ListN.{length, take, drop, replicate, length-take, length-drop}
+use Rattle.memory.specs.WroteLaws.{sets-whole}
+use Rattle.rules.specs.Hub.{passwordSize}
 use borrow.Author.Needs.{needs}
 use Rattle.requests.proofs.passwords.password_at.Statement.{statement}
 use Rattle.requests.proofs.passwords.password_at.Tie as tie
 
-returns : tie.Need-returns
-returns c = rw (drop-of-length-le (c .before .before .args .payload .now) (c .if1 .taken))
-
 slice-aggregate-copy : tie.Need-slice-aggregate-copy
 slice-aggregate-copy c = search needs
+
+add-copy : tie.Need-add-copy
+add-copy c = search needs
 
 sub-copy : tie.Need-sub-copy
 sub-copy c = search needs
@@ -23,17 +26,13 @@ part-copy-end c = search needs
 copy-requires : tie.Need-copy-requires
 copy-requires c κs = search needs
 
-returns-2 : tie.Need-returns-2
-returns-2 c = c .before .copy .ensures ∙ rw (rest (c .before .before .before .before .before .before .args .payload .now) (c .before .before .before .before .before .before .args .at))
+returns : tie.Need-returns
+returns c =
+    let d = c .before .before .before .before .before .args .payload .now in
+    let i = c .before .before .before .before .before .args .at in
+    let e : i + passwordSize - i ≡ passwordSize = omega arith in
+    let long : length (take passwordSize (drop i d)) ≡ passwordSize = simp (length-take, length-drop) (omega (arith, c .before .before .before .before .before .pre)) in
+    rw e at (c .before .copy .ensures) ∙ sets-whole (replicate passwordSize 0) (take passwordSize (drop i d)) long
 
 pub password-at-spec : {M : Type 1} → statement M
-password-at-spec =
-    tie.close
-    (tie.spec
-    returns
-    slice-aggregate-copy
-    sub-copy
-    part-copy-start
-    part-copy-end
-    copy-requires
-    returns-2)
+password-at-spec = tie.close (tie.spec slice-aggregate-copy add-copy sub-copy part-copy-start part-copy-end copy-requires returns)

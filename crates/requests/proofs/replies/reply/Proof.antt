@@ -1,4 +1,4 @@
-use Rattle.rules.specs.ReplyLaws.{written-reply}
+use Rattle.rules.specs.RoomLaws.{written-reply}
 use Rattle.frame.specs.declared.Written.the-variants.{Length, ShortRoom, LongData}
 use borrow.Author.Needs.{needs}
 use Rattle.requests.proofs.replies.reply.Statement.{statement}
@@ -20,19 +20,19 @@ same-length : tie.Need-same-length
 same-length c = search needs
 
 returns : tie.Need-returns
-returns c = written-reply _ _ _ _ (Length _) (rw (c .before .n .given .1) at (c .before .before .before .before .before .write .ensures))
+returns c = written-reply _ _ _ _ (c .before .before .before .before .before .before .before .before .before .pre .1) (c .before .before .before .before .before .before .before .before .before .pre .0) (Length _) (rw (c .before .n .given .1) at (c .before .before .before .before .before .write .ensures))
 
 same-length-2 : tie.Need-same-length-2
 same-length-2 c = search needs
 
 returns-2 : tie.Need-returns-2
-returns-2 c = written-reply _ _ _ _ ShortRoom (rw (c .enum-told .given .1) at (c .before .before .before .before .write .ensures))
+returns-2 c = written-reply _ _ _ _ (c .before .before .before .before .before .before .before .before .pre .1) (c .before .before .before .before .before .before .before .before .pre .0) ShortRoom (rw (c .enum-told .given .1) at (c .before .before .before .before .write .ensures))
 
 same-length-3 : tie.Need-same-length-3
 same-length-3 c = search needs
 
 returns-3 : tie.Need-returns-3
-returns-3 c = written-reply _ _ _ _ LongData (rw (c .enum-told2 .given .1) at (c .before .before .before .before .write .ensures))
+returns-3 c = written-reply _ _ _ _ (c .before .before .before .before .before .before .before .before .pre .1) (c .before .before .before .before .before .before .before .before .pre .0) LongData (rw (c .enum-told2 .given .1) at (c .before .before .before .before .write .ensures))
 
 pub reply-spec : {M : Type 1} → statement M
 reply-spec =

@@ -1,5 +1,3 @@
-use Rattle.rules.specs.ReplyLaws.{replied-whole}
-use Rattle.requests.specs.PasswordAt.{passwordAt-whole}
 use Rattle.rules.specs.Hub.{passwordSize}
 use Prim.Native.Nat.{_≤_}
 use native.Mathlib.Omega.{arith}
@@ -32,9 +30,9 @@ returns : tie.Need-returns
 returns c =
     let d = c .before .before .before .before .before .before .before .before .before .before .before .args .payload .now in
     let h : length (drop passwordSize d) ≤ passwordSize = simp length-drop (omega (arith, c .before .before .before .before .before .before .before .before .before .before .before .pre .1)) in
-    let e = c .before .before .before .before .before .before .before .password-at2 .ensures ∙ passwordAt-whole d passwordSize (omega (arith, c .before .before .before .before .before .before .before .before .before .before .before .pre .1)) ∙ take-all passwordSize (drop passwordSize d) h in
-    let x = rw (c .before .before .before .before .before .before .before .before .password-at .ensures ∙ passwordAt-whole d 0 (omega (arith, c .before .before .before .before .before .before .before .before .before .before .before .pre .1)), e) at (c .before .before .before .before .before .before .change .ensures) in
-    record { hub = x .hub; replied = replied-whole _ _ _ _ _ (c .before .before .before .before .before .before .before .before .before .before .before .pre .0) (omega arith) (rw (x .status) at (c .before .before .reply .ensures)) }
+    let e = c .before .before .before .before .before .before .before .password-at2 .ensures ∙ take-all passwordSize (drop passwordSize d) h in
+    let x = rw (c .before .before .before .before .before .before .before .before .password-at .ensures, e) at (c .before .before .before .before .before .before .change .ensures) in
+    record { hub = x .hub; replied = rw (x .status) at (c .before .before .reply .ensures) }
 
 pub change-spec : {M : Type 1} → statement M
 change-spec =

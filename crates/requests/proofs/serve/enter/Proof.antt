@@ -1,5 +1,5 @@
-use Rattle.rules.specs.ReplyLaws.{replied-whole}
-use Rattle.requests.specs.PasswordAt.{passwordAt-all}
+use Rattle.rules.specs.Hub.{passwordSize}
+use lib.Seq.{take-all}
 use native.Mathlib.Omega.{arith}
 use mathlib.Core.Path.{_∙_}
 use borrow.Author.Needs.{needs}
@@ -24,9 +24,9 @@ same-length c = search needs
 returns : tie.Need-returns
 returns c =
     let d = c .before .before .before .before .before .before .before .before .before .before .args .payload .now in
-    let e = c .before .before .before .before .before .before .before .password-at .ensures ∙ passwordAt-all d (c .before .before .before .before .before .before .before .before .before .before .pre .1) in
+    let e = c .before .before .before .before .before .before .before .password-at .ensures ∙ take-all passwordSize d (omega (arith, c .before .before .before .before .before .before .before .before .before .before .pre .1)) in
     let x = rw e at (c .before .before .before .before .before .before .enter .ensures) in
-    record { hub = x .hub; replied = replied-whole _ _ _ _ _ (c .before .before .before .before .before .before .before .before .before .before .pre .0) (omega arith) (rw (x .status) at (c .before .before .reply .ensures)) }
+    record { hub = x .hub; replied = rw (x .status) at (c .before .before .reply .ensures) }
 
 pub enter-spec : {M : Type 1} → statement M
 enter-spec =

@@ -1,4 +1,3 @@
-use Rattle.rules.specs.ReplyLaws.{replied-whole}
 use native.Mathlib.Omega.{arith}
 use Rattle.rules.specs.Hub.{modeSend, withSlots}
 use Rattle.sessions.specs.declared.Sent.{Sent}
@@ -35,7 +34,7 @@ returns : tie.Need-returns
 unfolding modeSend
 returns c =
     let x = rw (c .before .before .before .before .before .before .before .before .before .before .mode-send-of .ensures) at (c .before .before .before .before .before .before .before .before .before .mode-send .ensures) in
-    record { hub = c .with-slots .ensures ∙ ap (λ (s : Sent). withSlots (c .before .before .before .before .before .before .before .before .before .before .before .before .before .before .before .args .hub) (s .slots)) x; replied = replied-whole _ _ _ _ _ (c .before .before .before .before .before .before .before .before .before .before .before .before .before .before .before .pre .0) (omega arith) (rw (ap (λ (s : Sent). s .status) x) at (c .before .before .before .reply .ensures)) }
+    record { hub = c .with-slots .ensures ∙ ap (λ (s : Sent). withSlots (c .before .before .before .before .before .before .before .before .before .before .before .before .before .before .before .args .hub) (s .slots)) x; replied = rw (ap (λ (s : Sent). s .status) x) at (c .before .before .before .reply .ensures) }
 
 pub mode-send-spec : {M : Type 1} → statement M
 mode-send-spec =

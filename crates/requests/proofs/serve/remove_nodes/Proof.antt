@@ -1,4 +1,3 @@
-use Rattle.rules.specs.ReplyLaws.{replied-whole}
 use native.Mathlib.Omega.{arith}
 use Rattle.rules.specs.Hub.{removeNodes, withSlots}
 use mathlib.Core.Path.{_∙_, ap}
@@ -29,7 +28,7 @@ same-length-2 c = search needs
 
 returns : tie.Need-returns
 unfolding removeNodes
-returns c = record { hub = c .with-slots .ensures ∙ ap (withSlots (c .before .before .before .before .before .before .before .before .before .before .before .before .before .before .before .before .args .hub)) (c .before .before .before .before .before .before .before .before .before .before .close-removed .ensures); table = c .before .before .before .before .before .before .before .before .remove .ensures; replied = replied-whole _ _ _ _ _ (c .before .before .before .before .before .before .before .before .before .before .before .before .before .before .before .before .pre) (omega arith) (c .before .before .before .reply .ensures) }
+returns c = record { hub = c .with-slots .ensures ∙ ap (withSlots (c .before .before .before .before .before .before .before .before .before .before .before .before .before .before .before .before .args .hub)) (c .before .before .before .before .before .before .before .before .before .before .close-removed .ensures); table = c .before .before .before .before .before .before .before .before .remove .ensures; replied = c .before .before .before .reply .ensures }
 
 pub remove-nodes-spec : {M : Type 1} → statement M
 remove-nodes-spec =

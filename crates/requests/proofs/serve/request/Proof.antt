@@ -13,30 +13,30 @@ use Rattle.requests.proofs.serve.request.Tie as tie
 
 enter-requires : tie.Need-enter-requires
 unfolding find directory
-enter-requires c κs = (c .before .before .before .before .before .pre .1, fits-fixed passwordEnter passwordSize _ refl (rw (c .before .match .keys1) at (c .before .before .before .before .before .pre .2)))
+enter-requires c κs = (c .before .before .before .before .before .pre .1, fits-fixed passwordEnter passwordSize _ refl (rw (c .before .match .keys1) at (c .before .before .before .before .before .pre .3)), c .before .before .before .before .before .pre .2)
 
 change-requires : tie.Need-change-requires
 unfolding find directory
-change-requires c κs = (c .before .before .before .before .before .pre .1, fits-fixed 0x3002 (passwordSize + passwordSize) _ refl (rw (c .before .match .keys2) at (c .before .before .before .before .before .pre .2)))
+change-requires c κs = (c .before .before .before .before .before .pre .1, fits-fixed 0x3002 (passwordSize + passwordSize) _ refl (rw (c .before .match .keys2) at (c .before .before .before .before .before .pre .3)))
 
 shared-slice-read-get-node : tie.Need-shared-slice-read-get-node
 unfolding find directory
-shared-slice-read-get-node c = let n = fits-fixed 0x0200 1 _ refl (rw (c .before .before .before .match .keys3) at (c .before .before .before .before .before .before .before .pre .2)) in omega arith
+shared-slice-read-get-node c = let n = fits-fixed 0x0200 1 _ refl (rw (c .before .before .before .match .keys3) at (c .before .before .before .before .before .before .before .pre .3)) in omega arith
 
 get-node-requires : tie.Need-get-node-requires
 get-node-requires c κs = search needs
 
 set-variation-requires : tie.Need-set-variation-requires
 unfolding find directory
-set-variation-requires c κs = (c .before .before .before .before .before .before .pre .1, fits-fixed 0x0206 2 _ refl (rw (c .before .before .match .keys4) at (c .before .before .before .before .before .before .pre .2)))
+set-variation-requires c κs = (c .before .before .before .before .before .before .pre .1, fits-fixed 0x0206 2 _ refl (rw (c .before .before .match .keys4) at (c .before .before .before .before .before .before .pre .3)))
 
 set-name-requires : tie.Need-set-name-requires
 unfolding find directory
-set-name-requires c κs = let n = fits-fixed 0x0208 65 _ refl (rw (c .before .before .match .keys5) at (c .before .before .before .before .before .before .pre .2)) in (c .before .before .before .before .before .before .pre .1, omega arith)
+set-name-requires c κs = let n = fits-fixed 0x0208 65 _ refl (rw (c .before .before .match .keys5) at (c .before .before .before .before .before .before .pre .3)) in (c .before .before .before .before .before .before .pre .1, omega arith)
 
 set-order-and-placement-requires : tie.Need-set-order-and-placement-requires
 unfolding find directory
-set-order-and-placement-requires c κs = let n = fits-fixed 0x020D 4 _ refl (rw (c .before .before .match .keys6) at (c .before .before .before .before .before .before .pre .2)) in (c .before .before .before .before .before .before .pre .1, omega arith)
+set-order-and-placement-requires c κs = let n = fits-fixed 0x020D 4 _ refl (rw (c .before .before .match .keys6) at (c .before .before .before .before .before .before .pre .3)) in (c .before .before .before .before .before .before .pre .1, omega arith)
 
 remove-nodes-requires : tie.Need-remove-nodes-requires
 remove-nodes-requires c κs = search needs
@@ -46,7 +46,7 @@ virgin-state-requires c κs = search needs
 
 mode-send-requires : tie.Need-mode-send-requires
 unfolding find directory
-mode-send-requires c κs = let n = fits-fixed 0x0320 31 _ refl (rw (c .before .before .match .keys9) at (c .before .before .before .before .before .before .pre .2)) in (c .before .before .before .before .before .before .pre .1, omega arith)
+mode-send-requires c κs = let n = fits-fixed 0x0320 31 _ refl (rw (c .before .before .match .keys9) at (c .before .before .before .before .before .before .pre .3)) in (c .before .before .before .before .before .before .pre .1, omega arith)
 
 error-requires : tie.Need-error-requires
 error-requires c κs = search needs
@@ -143,7 +143,7 @@ unfolding request
 returns-10 c =
     let n = c .before .before .before .before .match .rest in
     rw (ne-eqb _ _ (n .0 .0 .0 .0 .0 .0 .0 .0 .1), ne-eqb _ _ (n .0 .0 .0 .0 .0 .0 .0 .1), ne-eqb _ _ (n .0 .0 .0 .0 .0 .0 .1), ne-eqb _ _ (n .0 .0 .0 .0 .0 .1), ne-eqb _ _ (n .0 .0 .0 .0 .1), ne-eqb _ _ (n .0 .0 .0 .1), ne-eqb _ _ (n .0 .0 .1), ne-eqb _ _ (n .0 .1), ne-eqb _ _ (n .1))
-    (failure-served _ _ _ _ (c .before .before .before .before .before .before .before .before .pre .1) _ _ (c .before .before .error .ensures))
+    (failure-served _ _ _ _ _ _ (c .before .before .error .ensures))
 
 pub request-spec : {M : Type 1} → statement M
 request-spec =

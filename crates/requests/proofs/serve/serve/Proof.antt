@@ -1,17 +1,33 @@
-use borrow.Author.Tests.{eq-eqb, ne-eqb, le-leb, lt-leb}
-use mathlib.Core.Path.{refl}
+use Rattle.requests.proofs.serve.Laws.{failure-served}
+use Rattle.rules.specs.Hub.{serve}
+use mathlib.Core.Path.{sym, _∙_}
 use borrow.Author.Needs.{needs}
 use Rattle.requests.proofs.serve.serve.Statement.{statement}
 use Rattle.requests.proofs.serve.serve.Tie as tie
 
-returns : tie.Need-returns
-returns c = simp (ne-eqb _ _ (c .if1 .taken)) (record { hub = refl; table = refl; replied = record { len = refl; content = refl } })
+judge-requires : tie.Need-judge-requires
+judge-requires c κs = search needs
 
-returns-2 : tie.Need-returns-2
-returns-2 c = simp (eq-eqb _ _ (c .before .if1 .left), lt-leb _ _ (c .if2 .taken)) (record { hub = refl; table = refl; replied = record { len = refl; content = refl } })
+enum-told : tie.Need-enum-told
+enum-told c = search needs
 
-judged-requires : tie.Need-judged-requires
-judged-requires c κs = search needs
+error-requires : tie.Need-error-requires
+error-requires c κs = search needs
+
+enum-told-2 : tie.Need-enum-told-2
+enum-told-2 c = search needs
+
+error-requires-2 : tie.Need-error-requires-2
+error-requires-2 c κs = search needs
+
+enum-told-3 : tie.Need-enum-told-3
+enum-told-3 c = search needs
+
+may-ask-requires : tie.Need-may-ask-requires
+may-ask-requires c κs = search needs
+
+request-requires : tie.Need-request-requires
+request-requires c κs = (c .before .before .before .before .before .before .before .before .before .before .before .pre .0, c .before .before .before .before .before .before .before .before .before .before .before .pre .1, c .before .before .before .before .before .before .before .before .before .before .before .pre .2, sym (c .before .before .before .before .before .before .before .judge .ensures) ∙ c .before .before .before .before .before .enum-told3 .given .1)
 
 same-length : tie.Need-same-length
 same-length c = search needs
@@ -19,9 +35,53 @@ same-length c = search needs
 same-length-2 : tie.Need-same-length-2
 same-length-2 c = search needs
 
+returns : tie.Need-returns
+unfolding serve
+returns c = rw (sym (c .before .before .before .before .before .before .before .before .before .before .before .before .judge .ensures) ∙ c .before .before .before .before .before .before .before .before .before .before .enum-told3 .given .1, sym (c .before .before .before .before .before .before .before .before .may-ask .ensures) ∙ c .before .before .before .before .before .before .before .if1 .taken) (c .before .before .before .before .request .ensures)
+
+error-requires-3 : tie.Need-error-requires-3
+error-requires-3 c κs = search needs
+
+same-length-3 : tie.Need-same-length-3
+same-length-3 c = search needs
+
+returns-2 : tie.Need-returns-2
+unfolding serve
+returns-2 c = rw (sym (c .before .before .before .before .before .before .judge .ensures) ∙ c .before .before .before .before .enum-told .given .1) (failure-served _ _ _ _ _ _ (c .before .before .error .ensures))
+
+same-length-4 : tie.Need-same-length-4
+same-length-4 c = search needs
+
 returns-3 : tie.Need-returns-3
-returns-3 c = simp (eq-eqb _ _ (c .before .before .before .before .before .before .before .before .if1 .left), le-leb _ _ (c .before .before .before .before .before .before .before .if2 .left)) (c .before .before .before .before .judged .ensures)
+unfolding serve
+returns-3 c = rw (sym (c .before .before .before .before .before .before .judge .ensures) ∙ c .before .before .before .before .enum-told2 .given .1) (failure-served _ _ _ _ _ _ (c .before .before .error2 .ensures))
+
+same-length-5 : tie.Need-same-length-5
+same-length-5 c = search needs
+
+returns-4 : tie.Need-returns-4
+unfolding serve
+returns-4 c = rw (sym (c .before .before .before .before .before .before .before .before .before .judge .ensures) ∙ c .before .before .before .before .before .before .before .enum-told3 .given .1, sym (c .before .before .before .before .before .may-ask .ensures) ∙ c .before .before .before .before .if1 .left) (failure-served _ _ _ _ _ _ (c .before .before .error3 .ensures))
 
 pub serve-spec : {M : Type 1} → statement M
 serve-spec =
-    tie.close (tie.spec returns returns-2 judged-requires same-length same-length-2 returns-3)
+    tie.close
+    (tie.spec
+    judge-requires
+    enum-told
+    error-requires
+    enum-told-2
+    error-requires-2
+    enum-told-3
+    may-ask-requires
+    request-requires
+    same-length
+    same-length-2
+    returns
+    error-requires-3
+    same-length-3
+    returns-2
+    same-length-4
+    returns-3
+    same-length-5
+    returns-4)

@@ -29,7 +29,7 @@ same-length-2 : tie.Need-same-length-2
 same-length-2 c = search needs
 
 returns : tie.Need-returns
-returns c = node-served _ _ _ _ (c .before .before .before .before .before .before .before .before .before .before .before .before .before .pre .0) _ _ _ _ _ (rw (rest (c .before .before .before .before .before .before .before .before .before .before .before .before .before .args .payload .now) 1) at (c .before .before .before .before .before .before .set-name .ensures)) (c .before .before .confirm .ensures)
+returns c = node-served _ _ _ _ _ _ _ _ _ (rw (rest (c .before .before .before .before .before .before .before .before .before .before .before .before .before .args .payload .now) 1) at (c .before .before .before .before .before .before .set-name .ensures)) (c .before .before .confirm .ensures)
 
 pub set-name-spec : {M : Type 1} → statement M
 set-name-spec =

@@ -22,7 +22,7 @@ same-length-2 : tie.Need-same-length-2
 same-length-2 c = search needs
 
 returns : tie.Need-returns
-returns c = node-served _ _ _ _ (c .before .before .before .before .before .before .before .before .before .before .before .before .before .pre .0) _ _ _ _ _ (c .before .before .before .before .before .before .set-variation .ensures) (c .before .before .confirm .ensures)
+returns c = node-served _ _ _ _ _ _ _ _ _ (c .before .before .before .before .before .before .set-variation .ensures) (c .before .before .confirm .ensures)
 
 pub set-variation-spec : {M : Type 1} → statement M
 set-variation-spec =

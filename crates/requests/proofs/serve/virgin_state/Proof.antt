@@ -1,4 +1,3 @@
-use Rattle.rules.specs.ReplyLaws.{replied-whole}
 use native.Mathlib.Omega.{arith}
 use Rattle.rules.specs.Hub.{virginState, withSlots}
 use mathlib.Core.Path.{_∙_, ap}
@@ -30,7 +29,7 @@ same-length-2 c = search needs
 returns : tie.Need-returns
 unfolding virginState
 returns c =
-    record { hub = c .with-slots .ensures ∙ ap (withSlots (c .before .before .before .before .before .before .before .before .before .before .before .before .before .before .args .hub)) (c .before .close-all .ensures); table = c .before .before .before .before .before .before .before .before .before .before .empty .ensures; replied = replied-whole _ _ _ _ _ (c .before .before .before .before .before .before .before .before .before .before .before .before .before .before .pre) (omega arith) (c .before .before .before .before .before .reply .ensures) }
+    record { hub = c .with-slots .ensures ∙ ap (withSlots (c .before .before .before .before .before .before .before .before .before .before .before .before .before .before .args .hub)) (c .before .close-all .ensures); table = c .before .before .before .before .before .before .before .before .before .before .empty .ensures; replied = c .before .before .before .before .before .reply .ensures }
 
 pub virgin-state-spec : {M : Type 1} → statement M
 virgin-state-spec =
