@@ -1,10 +1,11 @@
-// The hub's rules: what each request and host call does, and feed (document 01). The demands are proved of them in `demands`.
-// It has no code. The hub's state is declared here, its rules are defined in specs/Hub.antt.
-// It stands on what the frame layer, the directory, the node table and the sessions state, and on bytes compared.
-// What the hub's calls answer (document 01, "What the commands do", and its table of call refusals).
-// It has no code. specs/Answers.antt gives each answer its paper's number and values, specs/Promises.antt says what close and feed promise,
-// specs/Lent.antt the same of a lent record, specs/Replies.antt what a reply leaves in the room.
-// It stands on what the line and the frame layer, the lists of feeds and the hub's rules state.
+// The hub's rules: its state, its answers, and what each request and each call does (document 01; specs/Hub.antt). What the calls promise is
+// specs/Promises.antt, an answer's number specs/Answers.antt. Beside the numbers of the refusals it has no code.
+// It stands on what the frame layer, the directory, the node table, the sessions and the lists of feeds state.
+mod refusals;
+
+use frame::FrameOutcome;
+use line::Reading;
+pub use refusals::number;
 use sessions::Slot;
 
 // Serial lines, and the bytes of a password.
@@ -18,9 +19,6 @@ pub struct Hub {
     pub logins: [bool; LINES],
     pub slots: [Slot; sessions::SLOTS],
 }
-
-use frame::FrameOutcome;
-use line::Reading;
 
 // Why a call is refused.
 pub enum CallRefusal {

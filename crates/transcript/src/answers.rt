@@ -5,7 +5,6 @@ ghost use Prim.Native.Nat.{_≤_};
 ghost use mathlib.Core.Path.{_≡_};
 ghost use lib.ListN.{length, take};
 ghost use Rattle.text.specs.Appended.{appended, Leaves};
-ghost use Rattle.rules.specs.Answers.{number};
 ghost use Rattle.transcript.specs.Replies.{callLine, refusalLine, finishLine, outcomeLine, feedLine};
 use frame::FrameOutcome;
 use rules::CallAnswer;
@@ -22,7 +21,12 @@ pub(crate) fn call_line(out: &mut [u8], at: usize, answer: CallAnswer) -> usize
 {
     match answer {
         CallAnswer::Done => report::done_line(out, at),
-        CallAnswer::Refused(refusal) => report::refused_line(out, at, number_of(refusal), false),
+        CallAnswer::Refused(refusal) => report::refused_line(
+            out,
+            at,
+            rules::number(refusal),
+            false,
+        ),
     }
 }
 
@@ -90,7 +94,7 @@ fn refused_line(out: &mut [u8], at: usize, refusal: CallRefusal, room: &[u8]) ->
     ensures { λ r. ⌜ Leaves (appended (now (out .entry)) at (refusalLine refusal (now (room .entry)))) (now (out .exit)) r ⌝ }
 {
     let spilled = report::spilled(room, 0, FILLER);
-    report::refused_line(out, at, number_of(refusal), spilled)
+    report::refused_line(out, at, rules::number(refusal), spilled)
 }
 
 // Where a reply of a length ends in the room.
@@ -101,19 +105,4 @@ fn reply_end(room: &[u8], len: usize) -> usize
         return room.len();
     }
     len
-}
-
-// Document 01's number of a call's refusal.
-fn number_of(refusal: CallRefusal) -> u8
-    ensures { λ r. ⌜ r ≡ number refusal ⌝ }
-{
-    match refusal {
-        CallRefusal::WrongTable => 7,
-        CallRefusal::WrongLine => 8,
-        CallRefusal::ShortRoom => 9,
-        CallRefusal::WrongNode => 11,
-        CallRefusal::NodeInUse => 12,
-        CallRefusal::NotOpen => 13,
-        CallRefusal::WrongPassword => 14,
-    }
 }

@@ -12,8 +12,8 @@ done-line-requires c κs = search needs
 enum-known-answer : tie.Need-enum-known-answer
 enum-known-answer c = search needs
 
-number-of-requires : tie.Need-number-of-requires
-number-of-requires c κs = search needs
+number-requires : tie.Need-number-requires
+number-requires c κs = search needs
 
 refused-line-requires : tie.Need-refused-line-requires
 refused-line-requires c κs = search needs
@@ -30,7 +30,7 @@ same-length-2 c = search needs
 
 returns-2 : tie.Need-returns-2
 unfolding callLine
-returns-2 c = rw (c .before .before .before .before .before .before .answer .given .1, ← c .before .before .before .number-of .ensures) (c .before .before .refused-line .ensures)
+returns-2 c = rw (c .before .before .before .before .before .before .answer .given .1, ← c .before .before .before .number .ensures) (c .before .before .refused-line .ensures)
 
 pub call-line-spec : {M : Type 1} → statement M
 call-line-spec =
@@ -39,7 +39,7 @@ call-line-spec =
     enum-told
     done-line-requires
     enum-known-answer
-    number-of-requires
+    number-requires
     refused-line-requires
     same-length
     returns
