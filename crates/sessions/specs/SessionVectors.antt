@@ -10,7 +10,7 @@ use Rattle.sessions.specs.declared.Slot.{Slot}
 use Rattle.sessions.specs.declared.ModeSend.{ModeSend}
 use Rattle.sessions.specs.declared.Owner.the-variants.{Line, NotOpen}
 use Rattle.sessions.specs.Search.{any, first, below}
-use Rattle.sessions.specs.Sessions.{slotCount, targetCount, closedSlot, isFree, isNumbered, isOn, holds, holders, closeAll, closeLine, holdsRemoved, closeRemoved, maxIndices, modeSendOf, targetsLegal, isLegal, marked, sessionSlot, modeSend, finish, ended}
+use Rattle.sessions.specs.Sessions.{slotCount, targetCount, closedSlot, isFree, isNumbered, isOn, holds, holders, closeAll, closeLine, holdsRemoved, closeRemoved, modeSendSize, maxIndices, modeSendOf, targetsLegal, isLegal, marked, sessionSlot, modeSend, finish, ended}
 
 unfoldable nodes : List ℕ
 nodes = replicate (20 * 72) 1
@@ -37,8 +37,8 @@ unknown : map mayAsk (0 ∷ 4 ∷ 6 ∷ 7 ∷ 10 ∷ 14 ∷ 254 ∷ []) ≡ repl
 unfolding nodes mayAsk isLegal targetsLegal inUse any below
 unknown = refl
 
--- eight slots, 200 targets, 20 indices
-sizes : slotCount ∷ targetCount ∷ maxIndices ∷ [] ≡ 8 ∷ 200 ∷ 20 ∷ []
+-- eight slots, 200 targets, 31 data bytes of a mode send and 20 indices
+sizes : slotCount ∷ targetCount ∷ modeSendSize ∷ maxIndices ∷ [] ≡ 8 ∷ 200 ∷ 31 ∷ 20 ∷ []
 sizes = refl
 
 -- a closed slot is not used, and holds number 0, line 0 and no node
@@ -152,10 +152,8 @@ told : ended (left ∷ []) (some (record { line = 3; slots = closedSlot ∷ [] }
     ≡ record { told = Line 3; slots = closedSlot ∷ [] } ∷ record { told = NotOpen; slots = left ∷ [] } ∷ []
 told = refl
 
--- the data bytes 0 to 30, and none
-read : modeSendOf (below 31) ∷ modeSendOf [] ∷ []
-    ≡ record { session = 1; originator = 2; priority = 3; count = 6; indices = drop 7 (below 27); lock = 27 }
-    ∷ record { session = 0; originator = 0; priority = 0; count = 0; indices = replicate 20 0; lock = 0 } ∷ []
+-- the data bytes 0 to 30
+read : modeSendOf (below 31) ≡ record { session = 1; originator = 2; priority = 3; count = 6; indices = drop 7 (below 27); lock = 27 }
 unfolding below
 read = refl
 

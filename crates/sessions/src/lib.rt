@@ -14,10 +14,12 @@ pub use request::mode_send_of;
 pub use slots::finish;
 pub use slots::none;
 
-// Slots for all lines together, the nodes that a session may hold, and the indices of a mode send.
+// Slots for all lines together, the nodes that a session may hold, and the data bytes and indices of a mode send.
 pub const SLOTS: usize = 8;
 
 pub const TARGETS: usize = 200;
+
+pub const MODE_SEND: usize = 31;
 
 pub const INDICES: usize = 20;
 
