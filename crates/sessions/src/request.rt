@@ -1,5 +1,5 @@
 // What a mode send asks for: its data, read by their layout (document 01, mode send).
-// It is the definition's: specs/Sessions.antt: modeSendOf. It stands on single bytes and the store.
+// It is that of specs/Sessions.antt: modeSendOf.
 ghost use mathlib.Core.Path.{_≡_};
 ghost use Rattle.sessions.specs.Sessions.{modeSendOf};
 use crate::ModeSend;
