@@ -1,4 +1,5 @@
--- Mode send, finish, close a line and remove nodes, computed: nodes 0 to 19 are in use, and session 1 on line 0 holds node 5.
+-- Mode send, finish, close a line and remove nodes, computed: nodes 0 to 19 are in use, and session 1 on line 0 holds node 5; and the
+-- definitions' numbers at their edges.
 use Prim.Native.Nat.{ℕ, _-_, _*_}
 use mathlib.Core.Path.{_≡_, refl}
 use mathlib.Core.List.{List, [], _∷_, _++_, map}
