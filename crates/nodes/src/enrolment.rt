@@ -1,5 +1,5 @@
 // The node table emptied, and a node's record made anew (document 01, start, enrol and virgin state).
-// The table that each call leaves is the definition's: crate nodes, specs/Table.antt. It stands on the table's rules and the store.
+// The table that each call leaves is that of specs/Table.antt: emptied, enrolled.
 ghost use mathlib.Core.Path.{_≡_};
 ghost use Rattle.nodes.specs.Table.{emptied, enrolled};
 

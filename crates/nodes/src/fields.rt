@@ -1,5 +1,5 @@
-// The node set commands (document 01, "What the commands do").
-// Statuses and tables are the definition's: crate nodes, specs/Table.antt. It stands on the table's rules and who is in use.
+// The node set commands: one field of a record is overwritten (document 01, "What the commands do").
+// Statuses and tables are those of specs/Table.antt: setName, setOrderAndPlacement, setVariation.
 ghost use Prim.Native.Nat.{_≤_, min};
 ghost use mathlib.Core.Path.{_≡_};
 ghost use Rattle.nodes.specs.Table.{recordSize, setField, setName, setOrderAndPlacement, setVariation, isRejected};
@@ -9,7 +9,7 @@ use crate::Field;
 // The greatest variation.
 const MAX_VARIATION: u8 = 4;
 
-// The node set commands; the answer is the status.
+// Each answer is the status.
 pub fn set_name(table: &mut [u8], node: u8, name: &[u8]) -> u8
     ensures { λ r. ⌜ Results (setName (now (table .entry)) node (now (name .entry))) r (now (table .exit)) ⌝ }
 {
@@ -32,6 +32,7 @@ pub fn set_variation(table: &mut [u8], node: u8, variation: u8) -> u8
     set_field(table, node as usize, crate::VARIATION, &value)
 }
 
+// Whether the node is in use, and the variation too great for it.
 fn is_rejected(table: &[u8], node: usize, variation: u8) -> bool
     ensures { λ r. ⌜ r ≡ isRejected (now (table .entry)) node variation ⌝ }
 {

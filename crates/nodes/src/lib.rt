@@ -1,6 +1,6 @@
-// The node table's rules: 200 records of 72 bytes (document 01, "What the commands do").
-// It has no code. Layout, commands and host calls are defined in specs/Table.antt, with laws of them; sizes and types are declared here.
-// It stands on nothing.
+// The node table: 200 records of 72 lent bytes, and what the node commands do to it (document 01, "What the commands do").
+// Each call's answer, and every byte of the table that it leaves, are those of specs/Table.antt.
+// It stands on `memory`.
 mod enrolment;
 mod fields;
 mod notification;

@@ -1,5 +1,5 @@
 // What is told of a node: the data of frame 0210 (document 01, get node information).
-// They are the definition's: crate nodes, specs/Table.antt. It stands on the table's rules and who is in use.
+// They are those of specs/Table.antt: informed.
 ghost use Prim.Native.Nat.{_+_, _≤_, _<_};
 ghost use mathlib.Core.Path.{_≡_};
 ghost use lib.ListN.{length};
@@ -8,7 +8,7 @@ ghost use Rattle.nodes.specs.Table.{nodeCount, recordSize, tableSize, in
 use crate::Field;
 use crate::Informed;
 
-// The data of frame 0210.
+// The data of frame 0210, where the node is in use; a table of another length tells of none.
 pub fn information(table: &[u8], node: u8) -> Informed
     ensures { λ r. ⌜ r ≡ informed (now (table .entry)) node ⌝ }
 {

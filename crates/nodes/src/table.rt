@@ -1,6 +1,5 @@
-// The node table: which nodes are in use, and removal, in lent memory (document 01, "What the commands do").
-// Every byte of the table is the definition's: crate nodes, specs/Table.antt.
-// It stands on the table's rules, single bytes and the store's runs of bytes.
+// Which nodes are in use, and their removal (document 01, remove nodes).
+// Answers and tables are those of specs/Table.antt: inUse, isRemoved, remove.
 ghost use Prim.Native.Nat.{_<_};
 ghost use mathlib.Core.Path.{_≡_};
 ghost use Rattle.nodes.specs.Table.{nodeCount, inUse, bit, isRemoved, removeOne, remove};

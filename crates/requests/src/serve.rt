@@ -7,7 +7,7 @@ ghost use lib.ListN.{length, drop, getD};
 ghost use Rattle.frame.specs.Frame.{frame, wire};
 ghost use Rattle.frame.specs.Writer.{minRoom};
 ghost use Rattle.nodes.specs.Table.{tableSize, setName, setOrderAndPlacement, setVariation};
-ghost use Rattle.sessions.specs.Sessions.{closeAll};
+ghost use Rattle.sessions.specs.Sessions.{closeAll, modeSendSize};
 ghost use Rattle.directory.specs.declared.Verdict.the-variants.{Fits};
 ghost use Rattle.directory.specs.Lookup.{verdict};
 ghost use Rattle.rules.specs.Hub.{lineCount, passwordSize, enter, changed, getNode, nodeReply, removeNodes, virginState, modeSend, request, mayAsk, serve};
@@ -204,12 +204,14 @@ fn close_all(slots: [Slot; sessions::SLOTS]) -> [Slot; sessions::SLOTS]
 }
 
 fn mode_send(hub: Hub, table: &[u8], room: &mut [u8], line: u8, payload: &[u8]) -> Served
-    requires { ⌜ (minRoom ≤ length (now room)) × (2 ≤ length (now payload)) ⌝ }
+    requires { ⌜ (minRoom ≤ length (now room)) × (length (now payload) ≡ modeSendSize) ⌝ }
     ensures { λ r. ⌜ Answered (modeSend hub (now (table .entry)) line (now (payload .entry)) .hub) (modeSend hub (now (table .entry)) line (now (payload .entry)) .reply) (now (room .entry)) r (now (room .exit)) ⌝ }
 {
     let slots = hub.slots;
-    let asked = sessions::mode_send_of(payload);
-    let sent = sessions::mode_send(slots, table, line, asked);
+    let mut asked = [0u8; sessions::MODE_SEND];
+    memory::copy(&mut asked, 0, payload);
+    let request = sessions::mode_send_of(asked);
+    let sent = sessions::mode_send(slots, table, line, request);
     let left = sent.slots;
     let confirm = [payload[0], payload[1], sent.status];
     let n = crate::replies::reply(room, 0x0321, &confirm);

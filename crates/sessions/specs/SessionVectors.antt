@@ -1,45 +1,101 @@
--- Mode send, finish, close a line and remove nodes, computed: nodes 0 to 19 are in use, and session 1 on line 0 holds node 5.
+-- Mode send, finish, close a line and remove nodes, computed: nodes 0 to 19 are in use, and session 1 on line 0 holds node 5; and the
+-- definitions' numbers at their edges.
 use Prim.Native.Nat.{ℕ, _-_, _*_}
 use mathlib.Core.Path.{_≡_, refl}
 use mathlib.Core.List.{List, [], _∷_, _++_, map}
-use mathlib.Core.Bool.{true, false}
+use mathlib.Core.Bool.{Bool, true, false}
 use mathlib.Core.Option.{none, some}
 use lib.ListN.{length, drop, set, replicate}
-use Rattle.nodes.specs.Table.{recordSize, inUse, bit}
+use Rattle.nodes.specs.Table.{inUse, bit}
 use Rattle.sessions.specs.declared.Slot.{Slot}
 use Rattle.sessions.specs.declared.ModeSend.{ModeSend}
+use Rattle.sessions.specs.declared.Owner.the-variants.{Line, NotOpen}
 use Rattle.sessions.specs.Search.{any, first, below}
-use Rattle.sessions.specs.Sessions.{slotCount, closedSlot, closeLine, holdsRemoved, closeRemoved, maxIndices, modeSendOf, targetsLegal, isLegal, marked, sessionSlot, modeSend, finish}
+use Rattle.sessions.specs.Sessions.{slotCount, targetCount, closedSlot, isFree, isNumbered, isOn, holds, holders, closeAll, closeLine, holdsRemoved, closeRemoved, modeSendSize, maxIndices, modeSendOf, targetsLegal, isLegal, marked, sessionSlot, modeSend, finish, ended}
 
 unfoldable nodes : List ℕ
-nodes = replicate (20 * recordSize) 1
+nodes = replicate (20 * 72) 1
 
 -- a mode send with this originator, priority, count and lock, of the first nodes
 abbrev asked : ℕ → ℕ → ℕ → ℕ → ModeSend
-asked originator priority count lock = record { session = 1; originator = originator; priority = priority; count = count; indices = below maxIndices; lock = lock }
+asked originator priority count lock = record { session = 1; originator = originator; priority = priority; count = count; indices = below 20; lock = lock }
 
--- the limits: count 0, 1, 20, 21; priority 7, 8; lock 1, 2; originators 3, 4, 5
-limits : map (isLegal nodes) (asked 1 3 0 0 ∷ asked 1 3 1 0 ∷ asked 1 3 20 0 ∷ asked 1 3 21 0 ∷ asked 1 7 1 0 ∷ asked 1 8 1 0
-    ∷ asked 1 3 1 1 ∷ asked 1 3 1 2 ∷ asked 3 3 1 0 ∷ asked 4 3 1 0 ∷ asked 5 3 1 0 ∷ [])
-    ≡ false ∷ true ∷ true ∷ false ∷ true ∷ false ∷ true ∷ false ∷ true ∷ false ∷ true ∷ []
+-- the limits: count 0, 1, 20, 21; priority 7, 8; lock 1, 2
+limits : map (isLegal nodes) (asked 1 3 0 0 ∷ asked 1 3 1 0 ∷ asked 1 3 20 0 ∷ asked 1 3 21 0 ∷ asked 1 7 1 0 ∷ asked 1 8 1 0 ∷ asked 1 3 1 1 ∷ asked 1 3 1 2 ∷ [])
+    ≡ false ∷ true ∷ true ∷ false ∷ true ∷ false ∷ true ∷ false ∷ []
 unfolding nodes isLegal targetsLegal inUse any below
 limits = refl
 
+-- each of the ten originators, and the numbers beside them that are none
+unfoldable mayAsk : ℕ → Bool
+mayAsk o = isLegal nodes (asked o 3 1 0)
+
+known : map mayAsk (1 ∷ 2 ∷ 3 ∷ 5 ∷ 8 ∷ 9 ∷ 11 ∷ 12 ∷ 13 ∷ 255 ∷ []) ≡ replicate 10 true
+unfolding nodes mayAsk isLegal targetsLegal inUse any below
+known = refl
+
+unknown : map mayAsk (0 ∷ 4 ∷ 6 ∷ 7 ∷ 10 ∷ 14 ∷ 254 ∷ []) ≡ replicate 7 false
+unfolding nodes mayAsk isLegal targetsLegal inUse any below
+unknown = refl
+
+-- eight slots, 200 targets, 31 data bytes of a mode send and 20 indices
+sizes : slotCount ∷ targetCount ∷ modeSendSize ∷ maxIndices ∷ [] ≡ 8 ∷ 200 ∷ 31 ∷ 20 ∷ []
+sizes = refl
+
+-- a closed slot is not used, and holds number 0, line 0 and no node
+closed : closedSlot ≡ record { used = false; number = 0; line = 0; nodes = replicate 200 false }
+closed = refl
+
+-- virgin state and start leave closed slots
+closed-all : closeAll (closedSlot ∷ sessionSlot 1 (asked 1 3 1 0) ∷ []) ≡ closedSlot ∷ closedSlot ∷ []
+closed-all = refl
+
 -- a mode send of these nodes; the places behind the indices have 5, which counts for nothing
 unfoldable request : ℕ → List ℕ → ModeSend
-request x ns = record { session = x; originator = 1; priority = 3; count = length ns; indices = ns ++ replicate (maxIndices - length ns) 5; lock = 0 }
+request x ns = record { session = x; originator = 1; priority = 3; count = length ns; indices = ns ++ replicate (20 - length ns) 5; lock = 0 }
+
+-- a session has its number, its line, and of nodes 0 to 199 those that it names
+taken : sessionSlot 3 (request 0x0102 (0 ∷ 199 ∷ [])) ≡ record { used = true; number = 0x0102; line = 3; nodes = true ∷ replicate 198 false ++ true ∷ [] }
+unfolding request marked
+taken = refl
+
+-- it holds these, and neither those between nor one behind; a slot that is not used holds none
+unfoldable left : Slot
+left = record { used = false; number = 1; line = 2; nodes = replicate 200 true }
+
+held-nodes : map (λ (n : ℕ). holds n (sessionSlot 3 (request 1 (0 ∷ 199 ∷ [])))) (0 ∷ 1 ∷ 198 ∷ 199 ∷ 200 ∷ []) ++ holds 0 left ∷ [] ≡ true ∷ false ∷ false ∷ true ∷ false ∷ false ∷ []
+unfolding request left marked
+held-nodes = refl
+
+-- nor is it open under its number or on its line
+left-out : isFree left ∷ isNumbered 1 left ∷ isOn 2 left ∷ [] ≡ true ∷ false ∷ false ∷ []
+unfolding left
+left-out = refl
+
+-- in how many open sessions node 5 is
+counted : holders 5 (sessionSlot 0 (request 1 (5 ∷ [])) ∷ left ∷ sessionSlot 1 (request 2 (6 ∷ [])) ∷ sessionSlot 2 (request 3 (7 ∷ 5 ∷ [])) ∷ []) ≡ 2
+unfolding request left marked holders
+counted = refl
+
+-- index 199 is legal, and 200 is not, whatever lies behind the last record
+unfoldable over : List ℕ
+over = replicate (201 * 72) 1
+
+indices : targetsLegal over [] (199 ∷ []) ∷ targetsLegal over [] (200 ∷ []) ∷ [] ≡ true ∷ false ∷ []
+unfolding over targetsLegal inUse any
+indices = refl
 
 -- the lowest of the eight slots has the session
 unfoldable busy : List Slot
-busy = set (replicate slotCount closedSlot) 0 (sessionSlot 0 (request 1 (5 ∷ [])))
+busy = set (replicate 8 closedSlot) 0 (sessionSlot 0 (request 1 (5 ∷ [])))
 
-opened : modeSend (replicate slotCount closedSlot) nodes 0 (request 1 (5 ∷ [])) ≡ record { status = 0; slots = busy }
+opened : modeSend (replicate 8 closedSlot) nodes 0 (request 1 (5 ∷ [])) ≡ record { status = 0; slots = busy }
 unfolding nodes request busy modeSend isLegal targetsLegal inUse any first marked
 opened = refl
 
 -- all slots are taken, by sessions with node 5
 unfoldable full : List Slot
-full = replicate slotCount (sessionSlot 0 (request 1 (5 ∷ [])))
+full = replicate 8 (sessionSlot 0 (request 1 (5 ∷ [])))
 
 unfoldable status : List Slot → ModeSend → ℕ
 status ss r = modeSend ss nodes 1 r .status
@@ -84,9 +140,24 @@ closed-removed : closeRemoved nodes (128 ∷ []) (sessionSlot 0 (request 1 (7 �
 unfolding nodes request slot holdsRemoved any below bit inUse marked
 closed-removed = refl
 
--- the data bytes 0 to 30, and none
-read : modeSendOf (below 31) ∷ modeSendOf [] ∷ []
-    ≡ record { session = 1; originator = 2; priority = 3; count = 6; indices = drop 7 (below 27); lock = 27 }
-    ∷ record { session = 0; originator = 0; priority = 0; count = 0; indices = replicate maxIndices 0; lock = 0 } ∷ []
+-- a session with node 199 closes when it is removed, and stays when another is
+unfoldable with-199 : Slot
+with-199 = sessionSlot 0 (request 1 (199 ∷ []))
+
+removed-last : map (λ (b : ℕ). holdsRemoved over (replicate 24 0 ++ b ∷ 255 ∷ []) with-199) (128 ∷ 127 ∷ []) ≡ true ∷ false ∷ []
+unfolding over request with-199 holdsRemoved any below bit inUse marked
+removed-last = refl
+
+-- what finish tells: the line and the slots, or that the number is not open
+told : ended (left ∷ []) (some (record { line = 3; slots = closedSlot ∷ [] })) ∷ ended (left ∷ []) none ∷ []
+    ≡ record { told = Line 3; slots = closedSlot ∷ [] } ∷ record { told = NotOpen; slots = left ∷ [] } ∷ []
+told = refl
+
+-- the data bytes 0 to 30
+read : modeSendOf (below 31) ≡ record { session = 1; originator = 2; priority = 3; count = 6; indices = drop 7 (below 27); lock = 27 }
 unfolding below
 read = refl
+
+-- both session bytes, high byte first
+numbers : map (λ (d : List ℕ). modeSendOf d .session) ((0xFE ∷ 0x02 ∷ []) ∷ (0x01 ∷ 0x02 ∷ []) ∷ (0x00 ∷ 0xFF ∷ []) ∷ []) ≡ 0xFE02 ∷ 0x0102 ∷ 0x00FF ∷ []
+numbers = refl

@@ -1,6 +1,6 @@
 -- The sessions (document 01, mode send and the host calls): who holds which motor.
 use Prim.Native.Nat.{ℕ, _+_, _*_}
-use mathlib.Core.List.{List, [], _∷_, _++_, map}
+use mathlib.Core.List.{List, [], _∷_, map}
 use mathlib.Core.Bool.{Bool, true, false, cond, not, _&&_}
 use mathlib.Core.Option.{Option, none, some}
 use lib.ListN.{take, drop, set, getD, replicate}
@@ -19,9 +19,9 @@ use Rattle.sessions.specs.Search.{any, first, member, below}
 abbrev pub slotCount : ℕ
 slotCount = 8
 
--- mode send takes nodes 0 to 199
+-- mode send takes every node of the table, 0 to 199
 abbrev pub targetCount : ℕ
-targetCount = 200
+targetCount = nodeCount
 
 -- a free slot holds nothing, so that a closed session leaves no node held
 abbrev pub closedSlot : Slot
@@ -69,19 +69,22 @@ closeRemoved t bits = close (holdsRemoved t bits)
 
 -- ---- mode send (section 10.6)
 
--- a mode send has 20 indices
+-- a mode send has 31 data bytes, 20 of them indices
+abbrev pub modeSendSize : ℕ
+modeSendSize = 31
+
 abbrev pub maxIndices : ℕ
 maxIndices = 20
 
 -- data are session 2, originator, priority, mode, parameter, count, 20 indices, lock, two level bytes, lock time; mode, parameter,
--- levels and lock time are free, and bytes that are missing count as 0
+-- levels and lock time are free
 abbrev pub modeSendOf : List ℕ → ModeSend
 modeSendOf d = record {
   session = getD d 0 0 * 256 + getD d 1 0;
   originator = getD d 2 0;
   priority = getD d 3 0;
   count = getD d 6 0;
-  indices = take maxIndices (drop 7 d ++ replicate maxIndices 0);
+  indices = take maxIndices (drop 7 d);
   lock = getD d 27 0;
 }
 

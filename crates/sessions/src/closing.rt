@@ -1,5 +1,5 @@
 // The sessions that close: those of a closed line, and those with a removed node (document 01, close a line and remove nodes).
-// The slots left are the definition's: crate sessions, specs/Sessions.antt. It stands on the slots and the node table.
+// The slots left are those of specs/Sessions.antt: closeLine, closeRemoved.
 ghost use mathlib.Core.Path.{_≡_};
 ghost use mathlib.Core.Bool.{_&&_, _||_};
 ghost use Rattle.nodes.specs.Table.{isRemoved};

@@ -1,6 +1,6 @@
-// The open sessions: which line holds which motors (document 01, "What the commands do", mode send and host calls).
-// It has no code: the types stand here, the rules in specs/Sessions.antt. The code is in `slots`, `closing`, `asked`, `targets` and `opening`.
-// It stands on the node table's rules.
+// The open sessions: which line holds which motors (document 01, mode send and host calls).
+// Each call's answer, and every slot that it leaves, are those of specs/Sessions.antt.
+// It stands on `nodes` (which nodes are in use, which are removed) and `memory`.
 mod closing;
 mod opening;
 mod request;
@@ -14,10 +14,12 @@ pub use request::mode_send_of;
 pub use slots::finish;
 pub use slots::none;
 
-// Slots for all lines together, the nodes that a session may hold, and the indices of a mode send.
+// Slots for all lines together, the nodes that a session may hold, and the data bytes and indices of a mode send.
 pub const SLOTS: usize = 8;
 
-pub const TARGETS: usize = 200;
+pub const TARGETS: usize = nodes::NODES;
+
+pub const MODE_SEND: usize = 31;
 
 pub const INDICES: usize = 20;
 

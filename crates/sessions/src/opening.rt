@@ -1,5 +1,5 @@
 // A mode send: the first status that applies, or a session opened (document 01, mode send).
-// The answer is the definition's: crate sessions, specs/Sessions.antt. It stands on the slots and on what is legal.
+// The answer is that of specs/Sessions.antt: modeSend. What is legal stands in `targets`, the slots in `slots`.
 ghost use Prim.Native.Nat.{_≤_};
 ghost use mathlib.Core.Path.{_≡_};
 ghost use mathlib.Core.Bool.{true, false};
@@ -50,6 +50,7 @@ pub fn mode_send(slots: [Slot; crate::SLOTS], table: &[u8], line: u8, request: M
     }
 }
 
+// The lowest free slot; `SLOTS` where there is none.
 fn first_free(slots: [Slot; crate::SLOTS]) -> usize
     ensures { λ r. ⌜ r ≡ first isFree slots ⌝ }
 {
@@ -123,6 +124,7 @@ fn marked(indices: &[u8]) -> [bool; crate::TARGETS]
     marks
 }
 
+// One node more.
 fn with_mark(marks: [bool; crate::TARGETS], node: usize) -> [bool; crate::TARGETS]
     ensures { λ r. ⌜ r ≡ set marks node true ⌝ }
 {

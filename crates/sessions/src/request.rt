@@ -1,20 +1,20 @@
-// What a mode send asks for: its data (document 01, mode send).
-// They are the definition's: crate sessions, specs/Sessions.antt: modeSendOf.
-// It stands on the sessions' rules, single bytes and the store.
+// What a mode send asks for: its data, read by their layout (document 01, mode send).
+// It is that of specs/Sessions.antt: modeSendOf.
 ghost use mathlib.Core.Path.{_≡_};
 ghost use Rattle.sessions.specs.Sessions.{modeSendOf};
 use crate::ModeSend;
 
-// The data of a mode send; bytes that are missing count as 0.
-pub fn mode_send_of(payload: &[u8]) -> ModeSend
-    ensures { λ r. ⌜ r ≡ modeSendOf (now (payload .entry)) ⌝ }
+// The data of a mode send.
+pub fn mode_send_of(payload: [u8; crate::MODE_SEND]) -> ModeSend
+    ensures { λ r. ⌜ r ≡ modeSendOf payload ⌝ }
 {
-    let session = (memory::byte(payload, 0) as u16) * 256 + (memory::byte(payload, 1) as u16);
-    let originator = memory::byte(payload, 2);
-    let priority = memory::byte(payload, 3);
-    let count = memory::byte(payload, 6);
-    let indices = indices_of(payload);
-    let lock = memory::byte(payload, 27);
+    let session = (memory::byte(&payload, 0) as u16) * 256 + (memory::byte(&payload, 1) as u16);
+    let originator = payload[2];
+    let priority = payload[3];
+    let count = payload[6];
+    let mut indices = [0; crate::INDICES];
+    memory::copy(&mut indices, 0, &payload[7..7 + crate::INDICES]);
+    let lock = payload[27];
     ModeSend {
         session,
         originator,
@@ -23,16 +23,4 @@ pub fn mode_send_of(payload: &[u8]) -> ModeSend
         indices,
         lock,
     }
-}
-
-// The indices in the data of a mode send.
-fn indices_of(payload: &[u8]) -> [u8; crate::INDICES]
-    ensures { λ r. ⌜ r ≡ modeSendOf (now (payload .entry)) .indices ⌝ }
-{
-    let mut indices = [0; crate::INDICES];
-    if payload.len() < 7 {
-        return indices;
-    }
-    memory::copy(&mut indices, 0, &payload[7..]);
-    indices
 }

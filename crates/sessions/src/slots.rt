@@ -1,5 +1,5 @@
 // The session slots: a free one, one found by its number, and finishing it (document 01, host calls).
-// Each answer is the definition's: crate sessions, specs/Sessions.antt. It stands on the sessions' rules.
+// Answers are those of specs/Sessions.antt: closedSlot, isNumbered, holds, finish.
 ghost use mathlib.Core.Path.{_≡_};
 ghost use lib.ListN.{replicate};
 ghost use Rattle.sessions.specs.Search.{first};

@@ -1,5 +1,5 @@
 // Whether what a mode send asks for is legal (document 01, mode send, status 5).
-// The answer is the definition's: crate sessions, specs/Sessions.antt. It stands on the sessions' rules and the node table.
+// The answer is that of specs/Sessions.antt: isLegal.
 ghost use mathlib.Core.Path.{_≡_};
 ghost use mathlib.Core.List.{[]};
 ghost use mathlib.Core.Bool.{not, _&&_};
@@ -8,6 +8,9 @@ ghost use Rattle.nodes.specs.Table.{inUse};
 ghost use Rattle.sessions.specs.Search.{member};
 ghost use Rattle.sessions.specs.Sessions.{targetCount, targetsLegal, isLegal};
 use crate::ModeSend;
+
+// The originators that a mode send may have.
+const ORIGINATORS: [u8; 10] = [1, 2, 3, 5, 8, 9, 11, 12, 13, 255];
 
 // Whether count, indices, priority, lock and originator are all allowed.
 pub(crate) fn is_legal(table: &[u8], request: ModeSend) -> bool
@@ -48,6 +51,7 @@ fn targets_legal(table: &[u8], indices: &[u8]) -> bool
     true
 }
 
+// Whether an index is a node in use that is not among those seen.
 fn is_target(table: &[u8], seen: &[u8], index: u8) -> bool
     ensures { λ r. ⌜ r ≡ (ltb index targetCount && (inUse (now (table .entry)) index && not (member index (now (seen .entry))))) ⌝ }
 {
@@ -61,6 +65,7 @@ fn is_target(table: &[u8], seen: &[u8], index: u8) -> bool
     !is_member(seen, index)
 }
 
+// Whether a value stands among bytes.
 fn is_member(bytes: &[u8], value: u8) -> bool
     ensures { λ r. ⌜ r ≡ member value (now (bytes .entry)) ⌝ }
 {
@@ -73,5 +78,3 @@ fn is_member(bytes: &[u8], value: u8) -> bool
     }
     false
 }
-
-const ORIGINATORS: [u8; 10] = [1, 2, 3, 5, 8, 9, 11, 12, 13, 255];

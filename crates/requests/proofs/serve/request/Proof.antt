@@ -3,6 +3,7 @@ use Rattle.directory.specs.Directory.{directory}
 use Rattle.directory.specs.Lookup.{find}
 use Rattle.directory.specs.DirectoryLaws.{fits-fixed}
 use Rattle.rules.specs.Hub.{passwordSize, passwordEnter, request, modeSend}
+use Rattle.sessions.specs.Sessions.{modeSendSize}
 use Prim.Native.Nat.{_+_}
 use borrow.Author.Tests.{ne-eqb}
 use native.Mathlib.Omega.{arith}
@@ -46,7 +47,7 @@ virgin-state-requires c κs = search needs
 
 mode-send-requires : tie.Need-mode-send-requires
 unfolding find directory
-mode-send-requires c κs = let n = fits-fixed 0x0320 31 _ refl (rw (c .before .before .match .keys9) at (c .before .before .before .before .before .before .pre .3)) in (c .before .before .before .before .before .before .pre .1, omega arith)
+mode-send-requires c κs = (c .before .before .before .before .before .before .pre .1, fits-fixed 0x0320 modeSendSize _ refl (rw (c .before .before .match .keys9) at (c .before .before .before .before .before .before .pre .3)))
 
 error-requires : tie.Need-error-requires
 error-requires c κs = search needs
