@@ -2,7 +2,7 @@
 // Judging answers as the definition does: crate frame, specs/Frame.antt.
 // It stands on what the line and the frame layer state.
 ghost use mathlib.Core.Path.{_≡_};
-ghost use Rattle.frame.specs.Frame.{judge};
+ghost use Rattle.frame.specs.Frame.{refusal, judge};
 ghost use Rattle.frame.specs.Xor.{xorAll};
 ghost use Rattle.frame.specs.Answers.{Judges};
 use crate::AROUND;
@@ -36,6 +36,20 @@ pub fn judge(packet: &[u8]) -> Judged
         command,
         start: HEAD,
         len: n - AROUND,
+    }
+}
+
+// Document 01's number of a packet's refusal.
+pub fn number(cause: PacketRefusal) -> u8
+    ensures { λ r. ⌜ r ≡ refusal cause ⌝ }
+{
+    match cause {
+        PacketRefusal::WrongEscape => 1,
+        PacketRefusal::TooLong => 2,
+        PacketRefusal::TooShort => 3,
+        PacketRefusal::WrongProtocol => 4,
+        PacketRefusal::WrongLength => 5,
+        PacketRefusal::WrongCheck => 6,
     }
 }
 

@@ -9,6 +9,7 @@ mod view;
 mod writer;
 
 pub use checks::judge;
+pub use checks::number;
 pub use lent::read_frame;
 use line::Place;
 use line::Reading;

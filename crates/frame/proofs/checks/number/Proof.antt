@@ -1,6 +1,6 @@
 use borrow.Author.Needs.{needs}
-use Rattle.lister.proofs.outcome.number_of.Statement.{statement}
-use Rattle.lister.proofs.outcome.number_of.Tie as tie
+use Rattle.frame.proofs.checks.number.Statement.{statement}
+use Rattle.frame.proofs.checks.number.Tie as tie
 
 enum-told : tie.Need-enum-told
 enum-told c = search needs
@@ -38,8 +38,8 @@ returns-5 c = rw (c .enum-told5 .given .1)
 returns-6 : tie.Need-returns-6
 returns-6 c = rw (c .enum-told6 .given .1)
 
-pub number-of-spec : {M : Type 1} → statement M
-number-of-spec =
+pub number-spec : {M : Type 1} → statement M
+number-spec =
     tie.close
     (tie.spec
     enum-told
