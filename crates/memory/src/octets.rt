@@ -23,7 +23,9 @@ pub fn is_same(a: &[u8], b: &[u8]) -> bool
     }
     let mut i = 0;
     while i < a.len() {
-        if a[i] != b[i] {
+        let x = a[i];
+        let y = b[i];
+        if x != y {
             return false;
         }
         i += 1;
