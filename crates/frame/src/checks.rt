@@ -1,6 +1,5 @@
-// The checks on a packet, in document 01's order, and the exclusive or of its bytes ("From packet to frame").
-// Judging answers as the definition does: crate frame, specs/Frame.antt.
-// It stands on what the line and the frame layer state.
+// The checks on a packet in document 01's order, the numbers of their refusals, and the exclusive or of bytes.
+// Each answer is the definition's: specs/Frame.antt, specs/Answers.antt.
 ghost use mathlib.Core.Path.{_≡_};
 ghost use Rattle.frame.specs.Frame.{refusal, judge};
 ghost use Rattle.frame.specs.Xor.{xorAll};
