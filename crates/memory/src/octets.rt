@@ -1,5 +1,5 @@
 // Lent bytes looked at: one of them, and whether two runs of bytes are the same.
-// Answers are the definition's: specs/Octets.antt. It stands on nothing.
+// Answers are the definition's: specs/Octets.antt.
 ghost use mathlib.Core.Path.{_≡_};
 ghost use lib.ListN.{getD};
 ghost use Rattle.memory.specs.Octets.{same};

@@ -8,7 +8,7 @@ use lib.ListN.{length, getD, getElem?}
 use Rattle.directory.specs.declared.Entry.{Entry}
 use Rattle.directory.specs.Directory.{directory}
 use Rattle.directory.specs.Rule.{Sound, maxCommand}
-use Rattle.directory.specs.Code.{packed, unpacked}
+use Rattle.directory.specs.Packed.{packed, unpacked}
 use Rattle.directory.specs.LookupLaws.{getElem?-some}
 use Rattle.directory.specs.DirectoryLaws.{directory-sound}
 
