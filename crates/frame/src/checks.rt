@@ -30,7 +30,9 @@ pub fn judge(packet: &[u8]) -> Judged
     if packet[last] != xor_all(&packet[0..last]) {
         return Judged::Refused(PacketRefusal::WrongCheck);
     }
-    let command = (packet[2] as u16) * 256 + (packet[3] as u16);
+    let high = packet[2] as u16;
+    let low = packet[3] as u16;
+    let command = high * 256 + low;
     Judged::Frame {
         command,
         start: HEAD,
