@@ -1,5 +1,5 @@
-// The command directory's types and definitions: which commands are known, and how many data bytes each may have (document 01,
-// "The command directory"). The rules are specs/Directory.antt and specs/Lookup.antt. The code is in `lookup`.
+// The command directory: which commands are known, and how many data bytes each may have (document 01, "The command directory").
+// Its entries are specs/Directory.antt; what a call says of a command is the definition's, specs/Lookup.antt.
 // It stands on nothing.
 mod lookup;
 

@@ -1,11 +1,11 @@
-// A command looked up in the directory (document 01, "The command directory").
-// Every answer is the definition's: crate directory, specs/Directory.antt, specs/Lookup.antt. It stands on the directory's definitions.
+// A command looked up in the directory, and the entries as a constant, which is the definition's to the number.
+// Every answer is the definition's: specs/Directory.antt, specs/Lookup.antt.
 ghost use Prim.Native.Nat.{_<_};
 ghost use mathlib.Core.Path.{_≡_};
 ghost use mathlib.Core.Option.{some};
 ghost use lib.ListN.{length, getElem?};
 ghost use Rattle.directory.specs.Directory.{directory};
-ghost use Rattle.directory.specs.Code.{unpacked};
+ghost use Rattle.directory.specs.Packed.{unpacked};
 ghost use Rattle.directory.specs.Lookup.{find, verdict, told};
 use crate::Entry;
 use crate::Found;

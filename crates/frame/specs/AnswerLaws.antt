@@ -15,7 +15,7 @@ use Rattle.frame.specs.Frame.{Outcome, frame, refused, refusal, around, 
 use Rattle.frame.specs.JudgeLaws.{judge-accepted, judge-frame}
 use Rattle.frame.specs.Reader.{takenAs, taken, read}
 use Rattle.frame.specs.Answers.{told, seen, Answers, answerOf}
-use Rattle.frame.specs.Code.{causeOf}
+use Rattle.frame.specs.Judgements.{causeOf}
 use Rattle.frame.specs.Lent.{frameTold, ReadsFrame}
 use Rattle.frame.specs.View.{shownData, shownStart, Part}
 

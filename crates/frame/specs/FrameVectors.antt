@@ -6,8 +6,8 @@ use lib.ListN.{length, replicate}
 use Rattle.frame.specs.declared.Written.the-variants.{Length, ShortRoom, LongData}
 use Rattle.frame.specs.declared.WrittenAt.the-variants as at
 use Rattle.frame.specs.Xor.{_⊕_, xorAll}
-use Rattle.frame.specs.Frame.{escape, frame, refused, body, framed, wire, tooShort, wrongProtocol, wrongLength, wrongCheck, judge}
-use Rattle.frame.specs.View.{shownCommand}
+use Rattle.frame.specs.Frame.{escape, frame, refused, headOf, body, framed, wire, commandOf, tooLong, tooShort, wrongProtocol, wrongLength, wrongCheck, judge}
+use Rattle.frame.specs.View.{shownCommand, shownData, shownStart}
 use Rattle.frame.specs.Writer.{write, writeAt}
 
 -- two of the packets
@@ -42,10 +42,30 @@ refusals :
 unfolding p11 judge xorAll _⊕_ tooShort wrongProtocol wrongLength wrongCheck
 refusals = refl
 
--- P4 and P11, shown
+-- 256 bytes are refusal 2; 255 go on to the other checks
+too-long : map judge (replicate 256 0 ∷ replicate 255 0 ∷ []) ≡ refused 2 ∷ refused 5 ∷ []
+unfolding judge tooLong wrongLength
+too-long = refl
+
+-- the command's two bytes, high byte first, in a packet and in a head
+commands : map commandOf ((0x00 ∷ 0x03 ∷ 0x12 ∷ 0x34 ∷ 0x25 ∷ []) ∷ (0x00 ∷ 0x03 ∷ 0xFF ∷ 0x00 ∷ 0xFC ∷ []) ∷ []) ≡ 0x1234 ∷ 0xFF00 ∷ []
+commands = refl
+
+heads : headOf 0x1234 0 ∷ headOf 0xFF00 250 ∷ [] ≡ (0x00 ∷ 0x03 ∷ 0x12 ∷ 0x34 ∷ []) ∷ (0x00 ∷ 0xFD ∷ 0xFF ∷ 0x00 ∷ []) ∷ []
+heads = refl
+
+-- P4 and P11, shown: P4's data begin behind its head
 shown : map (λ (h : List ℕ). shownCommand (judge h)) (p4 ∷ p11 ∷ []) ≡ 0x0206 ∷ 0 ∷ []
 unfolding p4 p11 judge xorAll _⊕_ wrongCheck
 shown = refl
+
+shown-from : map (λ (h : List ℕ). shownStart (judge h)) (p4 ∷ p11 ∷ []) ≡ 4 ∷ 0 ∷ []
+unfolding p4 p11 judge xorAll _⊕_ wrongCheck
+shown-from = refl
+
+shown-data : map (λ (h : List ℕ). shownData (judge h)) (p4 ∷ p11 ∷ []) ≡ (0xC0 ∷ 0x00 ∷ []) ∷ [] ∷ []
+unfolding p4 p11 judge xorAll _⊕_ wrongCheck
+shown-data = refl
 
 -- the wire forms of P3 to P6
 p3-sent : List ℕ

@@ -4,9 +4,9 @@ pub mod Reader
 pub mod Line
 pub mod Answers
 pub mod Writer
-pub mod Code
-pub mod Lent
 pub mod View
+pub mod Judgements
+pub mod Lent
 pub mod Damage
 pub mod FrameVectors
 pub mod XorLaws
@@ -18,5 +18,3 @@ pub mod RoundTrip
 pub mod ChangeLaws
 pub mod DamageLaws
 pub mod AnswerLaws
-pub mod Shown
-pub mod ShownCode

@@ -4,6 +4,6 @@ pub use Rattle.line.specs.Reader.{limit, Outcome}
 unfoldable pub use Rattle.line.specs.Reader.{wrongEscape, tooLong, decoded, close, step}
 unfoldable pub use Rattle.line.specs.Pieces.{closed, last, pieceOutcomes, written}
 pub use Rattle.line.specs.Answers.{Clear}
-pub use Rattle.line.specs.Step.{placeOf, Takes}
+pub use Rattle.line.specs.Step.{Takes}
 pub use Rattle.line.specs.PieceLaws.{taken-held}
 pub use Rattle.line.specs.HeldLaws.{recordOf, taken-record, record-bounded}

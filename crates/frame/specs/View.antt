@@ -1,9 +1,10 @@
--- What is shown of a packet, and where it lies (document 01, "From packet to frame").
+-- The view: what is shown of a packet, where it lies, and what `show` promises (document 01, "From packet to frame").
 use Prim.Native.Nat.{ℕ, _+_, _≤_}
 use mathlib.Core.Path.{_≡_}
 use mathlib.Core.List.{List, []}
 use lib.ListN.{length, take, drop}
 use denote.Ref.{RefT}
+use Rattle.frame.specs.declared.view.View.{View}
 use Rattle.frame.specs.Frame.{Outcome, frame, refused, head}
 
 -- a frame's command number and data; of a refused packet 0 and none
@@ -25,3 +26,9 @@ pub record Part (x : RefT (List ℕ)) (s n : ℕ) (r : RefT (List ℕ)) : Type 0
   pub place : r .ptr ≡ (x .ptr .0, x .ptr .1 + s)
   pub bytes : r .now ≡ take n (drop s (x .now))
   pub within : s + n ≤ length (x .now)
+
+-- the view v of the lent slice x shows the outcome o
+pub record Shows (o : Outcome) (x : RefT (List ℕ)) (v : View) : Type 0 where
+  pub command : v .command ≡ shownCommand o
+  pub told : v .«data» .now ≡ shownData o
+  pub part : Part x (shownStart o) (length (shownData o)) (v .«data»)

@@ -13,8 +13,7 @@ use Rattle.frame.specs.XorLaws.{xorAll-append}
 use Rattle.frame.specs.Frame.{maxData, headOf, body, framed, wire}
 use Rattle.frame.specs.declared.Written.{Written}
 use Rattle.frame.specs.declared.Written.the-variants as written
-use Rattle.frame.specs.Writer.{minRoom, refusalOf, Wire, write}
-use Rattle.frame.specs.Code.{check}
+use Rattle.frame.specs.Writer.{minRoom, refusalOf, Wire, write, check}
 
 framed-parts : (c : ℕ) (d : List ℕ) → framed c d ≡ headOf c (length d) ++ d ++ check c d ∷ []
 unfolding framed body

@@ -10,7 +10,8 @@ use Rattle.frame.specs.declared.Written.{Written}
 use Rattle.frame.specs.declared.Written.the-variants as written
 use Rattle.frame.specs.declared.WrittenAt.{WrittenAt}
 use Rattle.frame.specs.declared.WrittenAt.the-variants as at
-use Rattle.frame.specs.Frame.{wire, maxData}
+use Rattle.frame.specs.Xor.{_⊕_, xorAll}
+use Rattle.frame.specs.Frame.{headOf, wire, maxData}
 
 -- the room that a call which writes must be lent
 abbrev pub minRoom : ℕ
@@ -45,3 +46,7 @@ writeAt room i c d =
 pub record Writes {Answer : Type 0} (x : Wire Answer) (r : Answer) (l : List ℕ) : Type 0 where
   pub answer : r ≡ x .answer
   pub room : l ≡ x .room
+
+-- `check_of`: the check byte, from the head's and the data's
+abbrev pub check : ℕ → List ℕ → ℕ
+check c d = xorAll (headOf c (length d)) ⊕ xorAll d

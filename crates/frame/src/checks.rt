@@ -1,8 +1,7 @@
-// The checks on a packet, in document 01's order, and the exclusive or of its bytes ("From packet to frame").
-// Judging answers as the definition does: crate frame, specs/Frame.antt.
-// It stands on what the line and the frame layer state.
+// The checks on a packet in document 01's order, the numbers of their refusals, and the exclusive or of bytes.
+// Each answer is the definition's: specs/Frame.antt, specs/Answers.antt.
 ghost use mathlib.Core.Path.{_≡_};
-ghost use Rattle.frame.specs.Frame.{judge};
+ghost use Rattle.frame.specs.Frame.{refusal, judge};
 ghost use Rattle.frame.specs.Xor.{xorAll};
 ghost use Rattle.frame.specs.Answers.{Judges};
 use crate::AROUND;
@@ -31,11 +30,27 @@ pub fn judge(packet: &[u8]) -> Judged
     if packet[last] != xor_all(&packet[0..last]) {
         return Judged::Refused(PacketRefusal::WrongCheck);
     }
-    let command = (packet[2] as u16) * 256 + (packet[3] as u16);
+    let high = packet[2] as u16;
+    let low = packet[3] as u16;
+    let command = high * 256 + low;
     Judged::Frame {
         command,
         start: HEAD,
         len: n - AROUND,
+    }
+}
+
+// Document 01's number of a packet's refusal.
+pub fn number(cause: PacketRefusal) -> u8
+    ensures { λ r. ⌜ r ≡ refusal cause ⌝ }
+{
+    match cause {
+        PacketRefusal::WrongEscape => 1,
+        PacketRefusal::TooLong => 2,
+        PacketRefusal::TooShort => 3,
+        PacketRefusal::WrongProtocol => 4,
+        PacketRefusal::WrongLength => 5,
+        PacketRefusal::WrongCheck => 6,
     }
 }
 

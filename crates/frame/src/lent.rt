@@ -1,10 +1,10 @@
-// Reading frames on a lent record.
+// Reading frames on a lent record, which lies as the answer by value says: specs/Lent.antt.
 ghost use mathlib.Core.Path.{_≡_};
 ghost use Rattle.frame.specs.Lent.{frameTold, ReadsFrame};
 use crate::FrameTold;
 use line::Reading;
 
-// The same of frames.
+// Reads to the end of the first outcome or of the bytes.
 pub fn read_frame(reading: &mut Reading, wire: &[u8]) -> FrameTold
     ensures { λ r. ⌜ ReadsFrame (now (reading .entry)) (now (wire .entry)) r (now (reading .exit)) ⌝ }
 {
@@ -13,6 +13,7 @@ pub fn read_frame(reading: &mut Reading, wire: &[u8]) -> FrameTold
     frame_told(frame)
 }
 
+// An answer's two parts.
 fn frame_record(frame: crate::FrameAnswer) -> Reading
     ensures { λ r. ⌜ r ≡ frame .reading ⌝ }
 {

@@ -1,7 +1,6 @@
-// The frame layer's types and definitions: packets to frames and back (document 01, "From packet to frame").
-// The rules are specs/Frame.antt, specs/Reading.antt, specs/Writing.antt and specs/View.antt.
-// The code is in `checks`, `reader`, `lent`, `view` and `writer`.
-// It stands on what the line layer states.
+// The frame layer: packets to frames and back (document 01, "From packet to frame").
+// The rules are specs/Frame.antt. Each call answers as they say: specs/Answers.antt (judging, reading), specs/Lent.antt,
+// specs/Writer.antt and specs/View.antt. It stands on what the line reader states, and on the store.
 mod checks;
 mod lent;
 mod reader;
@@ -9,6 +8,7 @@ mod view;
 mod writer;
 
 pub use checks::judge;
+pub use checks::number;
 pub use lent::read_frame;
 use line::Place;
 use line::Reading;

@@ -1,13 +1,12 @@
-// The frame layer's reading side: wire bytes in, one frame or refusal at a time out (document 01, "From packet to frame").
-// Its answer is the definition's in bytes used, outcome and state: crate frame, specs/Reading.antt, specs/Answers.antt.
-// It stands on the line reader and on the checks on a packet.
+// Reading frames by value: wire bytes in, one frame or refusal at a time out. The line reader's packets are judged.
+// The answer is the definition's in bytes used, outcome and state: specs/Reader.antt, specs/Answers.antt.
 ghost use mathlib.Core.Path.{_≡_};
 ghost use lib.ListN.{length};
 ghost use Rattle.line.specs.Reader.{limit};
 ghost use Rattle.line.specs.Answers.{Within};
 ghost use Rattle.frame.specs.Reader.{read, taken, takenAs, emptiedReading};
 ghost use Rattle.frame.specs.Answers.{answerOf, Answers};
-ghost use Rattle.frame.specs.Code.{Judging, outcomeOf, causeOf};
+ghost use Rattle.frame.specs.Judgements.{Judging, outcomeOf, causeOf};
 use crate::FrameAnswer;
 use crate::FrameAt;
 use crate::FrameOutcome;
@@ -29,7 +28,9 @@ pub fn read(reading: Reading, wire: &[u8]) -> FrameAnswer
     ensures { λ r. ⌜ Answers (read (taken reading) (now (wire .entry))) r ⌝ }
 {
     let mut bytes = reading.bytes;
-    let told = read_in(&mut bytes, line::place_of(reading), wire);
+    let count = reading.count;
+    let mode = reading.mode;
+    let told = read_in(&mut bytes, Place { count, mode }, wire);
     answer_of(bytes, told)
 }
 

@@ -1,15 +1,14 @@
-// An accepted frame shown as a view of the caller's own bytes, its data neither copied nor moved (document 01, "From packet
-// to frame"). What is shown is the definition's, and the data are that very part of the lent slice: specs/View.antt here and of `frame`.
-// It stands on what the frame layer states and on the checks on a packet.
+// The view: an accepted frame shown as a part of the caller's own bytes, its data neither copied nor moved.
+// What is shown is the definition's, and the data are that very part of the lent slice: specs/View.antt.
 ghost use mathlib.Core.Path.{_≡_};
 ghost use Rattle.frame.specs.Frame.{judge};
 ghost use Rattle.frame.specs.Answers.{JudgedWithin};
-ghost use Rattle.frame.specs.Shown.{Shows};
-ghost use Rattle.frame.specs.ShownCode.{commandIn, partIn};
+ghost use Rattle.frame.specs.View.{Shows};
+ghost use Rattle.frame.specs.Judgements.{commandIn, partIn};
 use crate::Judged;
 
 // A frame's command number and its data, where they lie; of a refused packet, 0 and the empty part at its start. Who must tell
-// such a view from that of the frame 0000 without data asks `checks::judge`.
+// such a view from that of the frame 0000 without data asks `judge`.
 pub struct View<'a> {
     pub command: u16,
     pub data: &'a [u8],

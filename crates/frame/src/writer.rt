@@ -1,14 +1,12 @@
-// The frame layer's writing side: commands with data to wire form (document 01, "From packet to frame").
-// Each call's answer and the room that it leaves are the definition's: specs/Writing.antt of `frame`.
-// With `checks`, `reader` and `view` it is the frame layer; it stands on what that layer and the line layer define, and on the store.
+// Writing: a command with data to its wire form, both ENDs included.
+// Each call's answer and the room that it leaves are the definition's: specs/Writer.antt.
 ghost use mathlib.Core.Path.{_≡_};
 ghost use Prim.Native.Nat.{_+_, _≤_};
 ghost use mathlib.Core.List.{[], _∷_};
 ghost use lib.ListN.{length};
 ghost use Rattle.memory.specs.Wrote.{Wrote};
 ghost use Rattle.frame.specs.Frame.{maxData, headOf, escape, wire};
-ghost use Rattle.frame.specs.Code.{check};
-ghost use Rattle.frame.specs.Writer.{write, writeAt, Writes};
+ghost use Rattle.frame.specs.Writer.{write, writeAt, Writes, check};
 use crate::DATA;
 use crate::Written;
 use crate::WrittenAt;

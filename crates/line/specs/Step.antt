@@ -11,8 +11,8 @@ use Rattle.line.specs.declared.PacketOutcome.the-variants.{Nothing, Pack
 use Rattle.line.specs.declared.Place.{Place}
 use Rattle.line.specs.declared.Reading.{Reading}
 use Rattle.line.specs.declared.PacketAt.{PacketAt}
-use Rattle.line.specs.declared.Action.{Action}
-use Rattle.line.specs.declared.Action.the-variants.{Store, Keep, Skip, Give}
+use Rattle.line.specs.declared.step.Action.{Action}
+use Rattle.line.specs.declared.step.Action.the-variants.{Store, Keep, Skip, Give}
 use Rattle.line.specs.Scan.{ahead}
 use Rattle.line.specs.Reader.{limit, read, State, plain, skipping, emptied, Outcome, decoded, close, step}
 use Rattle.line.specs.Answers.{at, takenAs, told, Clear}

@@ -1,4 +1,4 @@
-// Reading on a lent record.
+// Reading on a lent record, which lies as the answer by value says: specs/Lent.antt.
 ghost use mathlib.Core.Path.{_≡_};
 ghost use Rattle.line.specs.Lent.{packetTold, ReadsPacket};
 use crate::PacketTold;

@@ -1,6 +1,5 @@
-// The line layer's types and definitions: wire bytes to packets (document 01, "From wire to packet").
-// The rules are specs/Reader.antt; what a reader promises is specs/Answers.antt, and on a lent record specs/Lent.antt.
-// The code is in `escape`, `wire` and `lent`.
+// The line reader: wire bytes to packets, one outcome at a time (document 01, "From wire to packet").
+// The rules are specs/Reader.antt. Each call answers as they say (specs/Answers.antt), on a lent record too (specs/Lent.antt).
 // It stands on nothing.
 mod lent;
 mod reader;
@@ -10,7 +9,6 @@ pub use lent::read_packet;
 pub use reader::emptied;
 pub use reader::read;
 pub use reader::read_in;
-pub use step::place_of;
 pub use step::taken_place;
 
 // RFC 1055.
@@ -76,12 +74,4 @@ pub struct PacketAt {
 pub struct PacketTold {
     pub used: usize,
     pub outcome: PacketOutcome,
-}
-
-// What one byte asks the reader to do.
-pub enum Action {
-    Store(u8),
-    Keep(Mode),
-    Skip(Fault),
-    Give(PacketOutcome),
 }

@@ -1,6 +1,5 @@
-// The line reader: wire bytes in, one outcome at a time out (document 01, "From wire to packet").
-// Its answer is the definition's in bytes used, outcome and state: crate line, specs/Reader.antt, specs/Answers.antt.
-// It stands on what the line layer states and on what one byte asks for.
+// Reading by value: wire bytes in, one outcome at a time out.
+// The answer is the definition's in bytes used, outcome and state: specs/Reader.antt, specs/Answers.antt.
 ghost use Prim.Native.Nat.{_≤_};
 ghost use mathlib.Core.Path.{_≡_};
 ghost use lib.ListN.{length};
@@ -8,7 +7,6 @@ ghost use Rattle.line.specs.declared.Mode.the-variants.{Plain};
 ghost use Rattle.line.specs.Reader.{limit, read};
 ghost use Rattle.line.specs.Answers.{emptiedReading, taken, takenAs, answerOf, Answers};
 ghost use Rattle.line.specs.Step.{toldAt, Runs};
-use crate::Action;
 use crate::END;
 use crate::ESC;
 use crate::LIMIT;
@@ -18,6 +16,7 @@ use crate::PacketAt;
 use crate::PacketOutcome;
 use crate::Place;
 use crate::Reading;
+use crate::step::Action;
 
 // A reading between packets.
 pub fn emptied() -> Reading

@@ -1,9 +1,7 @@
-// What one wire byte asks of the line reader, and where a lent record is taken up (document 01, "From wire to packet").
-// Each answer does the definition's step, whatever bytes are held: crate line, specs/Reader.antt, specs/Code.antt.
-// It stands on what the line layer states.
+// One step of the reader: where a lent record is taken up, and what one wire byte asks for.
+// Each answer does the definition's step, whatever bytes are held: specs/Reader.antt, specs/Step.antt.
 ghost use mathlib.Core.Path.{_≡_};
 ghost use Rattle.line.specs.Step.{placeOf, Takes, Acts, stepping, closing, storing};
-use crate::Action;
 use crate::END;
 use crate::ESC;
 use crate::ESC_END;
@@ -15,8 +13,23 @@ use crate::PacketOutcome;
 use crate::Place;
 use crate::Reading;
 
+// What one byte asks the reader to do.
+pub(crate) enum Action {
+    Store(u8),
+    Keep(Mode),
+    Skip(Fault),
+    Give(PacketOutcome),
+}
+
+// The place that a lent record is taken at: what is given back from there claims no more than it holds.
+pub fn taken_place(reading: Reading) -> Place
+    ensures { λ r. ⌜ Takes (placeOf reading) r ⌝ }
+{
+    taken_at(place_of(reading))
+}
+
 // Where a reading stands, apart from its bytes.
-pub fn place_of(reading: Reading) -> Place
+pub(crate) fn place_of(reading: Reading) -> Place
     ensures { λ r. ⌜ r ≡ placeOf reading ⌝ }
 {
     let count = reading.count;
@@ -24,7 +37,7 @@ pub fn place_of(reading: Reading) -> Place
     Place { count, mode }
 }
 
-// The place that a lent record is taken at: none claims more bytes than there are, or any while it skips.
+// The same of a place: none claims more bytes than there are, or any while it skips.
 pub(crate) fn taken_at(place: Place) -> Place
     ensures { λ r. ⌜ Takes place r ⌝ }
 {
@@ -44,13 +57,6 @@ pub(crate) fn taken_at(place: Place) -> Place
             mode: Mode::Skipping(fault),
         },
     }
-}
-
-// The place that a lent record is taken at, of the whole record: one that is given back from there claims no more than it holds.
-pub fn taken_place(reading: Reading) -> Place
-    ensures { λ r. ⌜ Takes (placeOf reading) r ⌝ }
-{
-    taken_at(place_of(reading))
 }
 
 // What one byte asks for, where so many bytes are held.

@@ -10,7 +10,6 @@ pub use capture::list;
 pub use left::last_line;
 use line::Reading;
 pub use lines::LINE;
-pub use outcome::number_of;
 pub use outcome::outcome_line;
 
 // What a call on some bytes used and wrote, and how the reading stands after them.

@@ -1,5 +1,5 @@
 // Lent bytes looked at: one of them, and whether two runs of bytes are the same.
-// Answers are the definition's: specs/Octets.antt. It stands on nothing.
+// Answers are the definition's: specs/Octets.antt.
 ghost use mathlib.Core.Path.{_≡_};
 ghost use lib.ListN.{getD};
 ghost use Rattle.memory.specs.Octets.{same};
@@ -23,7 +23,9 @@ pub fn is_same(a: &[u8], b: &[u8]) -> bool
     }
     let mut i = 0;
     while i < a.len() {
-        if a[i] != b[i] {
+        let x = a[i];
+        let y = b[i];
+        if x != y {
             return false;
         }
         i += 1;

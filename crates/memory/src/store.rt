@@ -1,5 +1,5 @@
 // Bytes stored in lent memory from a place on; what would run past its end is dropped.
-// The content after a call is the definition's: specs/Wrote.antt. It stands on nothing.
+// The content after a call is the library's `sets`, of all the bytes: specs/WroteLaws.antt.
 ghost use mathlib.Core.Path.{_≡_};
 ghost use lib.ListN.{replicate};
 ghost use lib.Seq.{sets};

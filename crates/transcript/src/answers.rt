@@ -83,7 +83,7 @@ fn outcome_line(
             out,
             at,
             used,
-            lister::number_of(cause),
+            frame::number(cause),
             reply,
             spilled,
         ),

@@ -21,7 +21,7 @@ use Rattle.frame.specs.Frame.{frame, head, around, judge}
 use Rattle.frame.specs.Reader.{State, takenAs, verdict, read}
 use Rattle.frame.specs.Answers.{Judges, told, answerOf, Answers}
 use Rattle.frame.specs.ReaderLaws.{judgedCall, read-judged}
-use Rattle.frame.specs.Code.{outcomeOf, Judging}
+use Rattle.frame.specs.Judgements.{outcomeOf, Judging}
 
 drop-take : (i k : ℕ) (l : List ℕ) → drop i (take (i + k) l) ≡ take k (drop i l)
 drop-take zero k l = rw zero-add

@@ -10,9 +10,8 @@ use Rattle.frame.specs.Frame.{Outcome, judge}
 use Rattle.frame.specs.Answers.{Judges, JudgedWithin, judgedAs}
 use Rattle.frame.specs.declared.Judged.{Judged}
 use Rattle.frame.specs.declared.Judged.the-variants as judged
-use Rattle.frame.specs.View.{Part}
-use Rattle.frame.specs.Shown.{Shows}
-use Rattle.frame.specs.ShownCode.{commandIn, partIn}
+use Rattle.frame.specs.View.{Part, Shows}
+use Rattle.frame.specs.Judgements.{commandIn, partIn}
 
 -- a part that lies within a list is as long as it says
 part-length : (s n : ℕ) (h : List ℕ) → s + n ≤ length h → length (take n (drop s h)) ≡ n

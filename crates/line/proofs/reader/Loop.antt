@@ -13,7 +13,7 @@ use Rattle.line.specs.declared.Mode.{Mode}
 use Rattle.line.specs.declared.Mode.the-variants.{Plain, Escaped, Skipping}
 use Rattle.line.specs.declared.PacketOutcome.{PacketOutcome as Given}
 use Rattle.line.specs.declared.PacketOutcome.the-variants.{Nothing, Packet, Refused}
-use Rattle.line.specs.declared.Action.the-variants.{Keep, Give}
+use Rattle.line.specs.declared.step.Action.the-variants.{Keep, Give}
 use Rattle.line.specs.Wire.{END, ESC}
 use Rattle.line.specs.Scan.{Scan, onward, ahead, scan}
 use Rattle.line.specs.Reader.{limit, State, plain, emptied, Outcome, packet, decoded, inner, step, read}

@@ -7,7 +7,7 @@ use lib.ListN.{length, drop, getElem?}
 use borrow.Author.Needs.{needs}
 use borrow.Author.Tests.{eq-eqb, ne-eqb}
 use Rattle.directory.specs.Directory.{directory}
-use Rattle.directory.specs.CodeLaws.{read-there}
+use Rattle.directory.specs.PackedLaws.{read-there}
 use Rattle.directory.specs.Lookup.{find}
 use Rattle.directory.specs.LookupLaws.{find-on, find-found, find-end}
 use Rattle.directory.specs.DirectoryLaws.{directory-count}

@@ -2,7 +2,7 @@ use native.Mathlib.Omega.{arith}
 use borrow.Author.Needs.{needs}
 use Rattle.directory.specs.Directory.{directory}
 use Rattle.directory.specs.DirectoryLaws.{directory-count}
-use Rattle.directory.specs.CodeLaws.{read-there}
+use Rattle.directory.specs.PackedLaws.{read-there}
 use Rattle.directory.proofs.lookup.read.Statement.{statement}
 use Rattle.directory.proofs.lookup.read.Tie as tie
 

@@ -64,20 +64,20 @@ returns-5 : tie.Need-returns-5
 unfolding judge wrongCheck
 returns-5 c = record { told = simp (le-leb _ _ (c .before .before .before .before .before .before .before .before .before .if1 .left), le-leb _ _ (c .before .before .before .before .before .before .before .before .if2 .left), eq-eqb _ _ (c .before .before .before .before .before .before .if3 .left), eq-eqb _ _ (c .before .before .before .before .if4 .left), ne-eqb _ _ (λ e. c .if5 .taken (e ∙ sym (check-due (c .before))))); within = tt }
 
-shared-slice-read-command : tie.Need-shared-slice-read-command
-shared-slice-read-command c = search needs
+shared-slice-read-high : tie.Need-shared-slice-read-high
+shared-slice-read-high c = search needs
 
-cast-command : tie.Need-cast-command
-cast-command c = omega (arith, c .shared-slice-known5 .given 2)
+cast-high : tie.Need-cast-high
+cast-high c = omega (arith, c .shared-slice-known5 .given 2)
+
+shared-slice-read-low : tie.Need-shared-slice-read-low
+shared-slice-read-low c = search needs
+
+cast-low : tie.Need-cast-low
+cast-low c = omega (arith, c .shared-slice-known6 .given 3)
 
 mul-command : tie.Need-mul-command
-mul-command c = omega (arith, c .shared-slice-known5 .given 2)
-
-shared-slice-read-command-2 : tie.Need-shared-slice-read-command-2
-shared-slice-read-command-2 c = search needs
-
-cast-command-2 : tie.Need-cast-command-2
-cast-command-2 c = omega (arith, c .shared-slice-known6 .given 3)
+mul-command c = omega (arith, c .before .shared-slice-known5 .given 2, c .shared-slice-known6 .given 3)
 
 add-command : tie.Need-add-command
 add-command c = omega (arith, c .before .shared-slice-known5 .given 2, c .shared-slice-known6 .given 3)
@@ -109,10 +109,10 @@ judge-spec =
     part-xor-all-end
     xor-all-requires
     returns-5
-    shared-slice-read-command
-    cast-command
+    shared-slice-read-high
+    cast-high
+    shared-slice-read-low
+    cast-low
     mul-command
-    shared-slice-read-command-2
-    cast-command-2
     add-command
     returns-6)

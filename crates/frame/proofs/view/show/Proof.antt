@@ -49,8 +49,8 @@ use Rattle.frame.proofs.checks.judge.Symbol as judge-def
 use Rattle.frame.proofs.checks.judge.Symbol.{name as #checks·judge}
 use Rattle.frame.proofs.checks.judge.Met as judge-thm
 use Rattle.frame.specs.declared.view.View.{View}
-use Rattle.frame.specs.Shown.{Shows}
-use Rattle.frame.specs.ShownCode.{commandIn, partIn}
+use Rattle.frame.specs.View.{Shows}
+use Rattle.frame.specs.Judgements.{commandIn, partIn}
 use Rattle.frame.proofs.view.Laws.{shown}
 use Rattle.frame.proofs.view.View as T
 use Rattle.frame.proofs.view.View.Laws as T′

@@ -7,7 +7,7 @@ use Rattle.memory.specs.Wrote.{Wrote}
 use Rattle.memory.specs.WroteLaws.{one, then, kept}
 use Rattle.line.specs.Wire.{END, escape}
 use Rattle.frame.specs.Frame.{headOf}
-use Rattle.frame.specs.Code.{check}
+use Rattle.frame.specs.Writer.{check}
 use Rattle.frame.specs.WireLaws.{wire-parts, wire-length}
 use borrow.Author.Needs.{needs}
 use Rattle.frame.proofs.writer.put_wire.Statement.{statement}

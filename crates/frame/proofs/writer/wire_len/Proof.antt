@@ -5,7 +5,7 @@ use native.Mathlib.Omega.{arith}
 use lib.ListN.{length}
 use Rattle.line.specs.Wire.{escape}
 use Rattle.frame.specs.Frame.{headOf, wire}
-use Rattle.frame.specs.Code.{check}
+use Rattle.frame.specs.Writer.{check}
 use Rattle.frame.specs.Writer.{minRoom}
 use Rattle.frame.specs.WireLaws.{wire-length, wire-fits}
 use borrow.Author.Needs.{needs}

@@ -7,7 +7,7 @@ use lib.ListN.{length, take, drop, getD}
 use lib.Seq.{length-take-le}
 use borrow.Author.Needs.{needs}
 use borrow.Author.Tests.{le-ltb}
-use Rattle.line.specs.declared.Action.{Action}
+use Rattle.line.specs.declared.step.Action.{Action}
 use Rattle.line.specs.Scan.{ahead}
 use Rattle.line.specs.Reader.{limit, State, step, read}
 use Rattle.line.specs.Answers.{at, takenAs, Clear}

@@ -6,7 +6,7 @@ use lib.ListN.{length}
 use lib.Seq.{take-length}
 use Rattle.line.specs.declared.Mode.the-variants.{Plain}
 use Rattle.line.specs.declared.PacketOutcome.the-variants.{Packet}
-use Rattle.line.specs.declared.Action.the-variants.{Keep, Give}
+use Rattle.line.specs.declared.step.Action.the-variants.{Keep, Give}
 use Rattle.line.specs.Reader.{close}
 use Rattle.line.specs.Step.{acted, closing}
 use Rattle.line.proofs.step.close.Statement.{statement}

@@ -15,8 +15,8 @@ frame-line-requires c κs = search needs
 enum-known-outcome-2 : tie.Need-enum-known-outcome-2
 enum-known-outcome-2 c = search needs
 
-number-of-requires : tie.Need-number-of-requires
-number-of-requires c κs = search needs
+number-requires : tie.Need-number-requires
+number-requires c κs = search needs
 
 refused-line-requires : tie.Need-refused-line-requires
 refused-line-requires c κs = search needs
@@ -34,7 +34,7 @@ same-length-2 : tie.Need-same-length-2
 same-length-2 c = search needs
 
 returns-3 : tie.Need-returns-3
-returns-3 c = rw (c .before .before .before .before .before .before .outcome2 .given .1) (rw (c .before .before .before .number-of .ensures) at (c .before .before .refused-line .ensures))
+returns-3 c = rw (c .before .before .before .before .before .before .outcome2 .given .1) (rw (c .before .before .before .number .ensures) at (c .before .before .refused-line .ensures))
 
 pub outcome-line-spec : {M : Type 1} → statement M
 outcome-line-spec =
@@ -44,7 +44,7 @@ outcome-line-spec =
     enum-known-outcome
     frame-line-requires
     enum-known-outcome-2
-    number-of-requires
+    number-requires
     refused-line-requires
     returns
     same-length

@@ -18,8 +18,8 @@ frame-line-requires c κs = search needs
 enum-known-outcome-2 : tie.Need-enum-known-outcome-2
 enum-known-outcome-2 c = search needs
 
-number-of-requires : tie.Need-number-of-requires
-number-of-requires c κs = search needs
+number-requires : tie.Need-number-requires
+number-requires c κs = search needs
 
 packet-line-requires : tie.Need-packet-line-requires
 packet-line-requires c κs = search needs
@@ -43,7 +43,7 @@ same-length-3 c = search needs
 
 returns-3 : tie.Need-returns-3
 unfolding outcomeLine
-returns-3 c = rw (c .before .before .before .before .before .before .outcome2 .given .1, ← c .before .before .before .number-of .ensures) (c .before .before .packet-line .ensures)
+returns-3 c = rw (c .before .before .before .before .before .before .outcome2 .given .1, ← c .before .before .before .number .ensures) (c .before .before .packet-line .ensures)
 
 pub outcome-line-spec : {M : Type 1} → statement M
 outcome-line-spec =
@@ -54,7 +54,7 @@ outcome-line-spec =
     enum-known-outcome
     frame-line-requires
     enum-known-outcome-2
-    number-of-requires
+    number-requires
     packet-line-requires
     same-length
     returns
