@@ -6,6 +6,11 @@ use line::Mode;
 use line::PacketOutcome;
 use line::Reading;
 use rules::FedByValue;
+use text::COLON;
+use text::GAP;
+use text::LINE_END;
+use text::NOTHING;
+use text::PACKET;
 
 // Where a text ends, and the record after the bytes read so far.
 struct Run {
@@ -16,15 +21,7 @@ struct Run {
 // A text longer than this is cut off.
 const PAGE: usize = 2048;
 
-const NONE: [u8; 0] = [];
-
-const GAP: [u8; 1] = *b" ";
-
-const COLON: [u8; 1] = *b":";
-
 const BAR: [u8; 2] = *b" |";
-
-const LINE_END: [u8; 1] = *b"\n";
 
 const RECORD: [u8; 6] = *b"record";
 
@@ -39,8 +36,6 @@ const SKIPPING: [u8; 10] = *b" skipping ";
 const HOLDS: [u8; 6] = *b" holds";
 
 const READS: [u8; 7] = *b" reads ";
-
-const PACKET: [u8; 8] = *b" packet ";
 
 const REFUSED: [u8; 9] = *b" refused ";
 
@@ -65,7 +60,7 @@ fn put_held(out: &mut [u8], at: usize, word: &[u8], reading: Reading, n: usize) 
     if line::LIMIT < n {
         return text::append(out, at, &TOO_MANY);
     }
-    text::bytes_line(out, at, word, n as u64, &GAP, &bytes[0..n], &NONE)
+    text::bytes_line(out, at, word, n as u64, &GAP, &bytes[0..n], &NOTHING)
 }
 
 fn put_outcome(out: &mut [u8], at: usize, outcome: PacketOutcome, reading: Reading) -> usize {
@@ -73,7 +68,7 @@ fn put_outcome(out: &mut [u8], at: usize, outcome: PacketOutcome, reading: Readi
         PacketOutcome::Nothing => at,
         PacketOutcome::Packet(n) => put_held(out, at, &PACKET, reading, n),
         PacketOutcome::Refused(fault) => {
-            text::append_numbered(out, at, &REFUSED, number_of(fault), &NONE)
+            text::append_numbered(out, at, &REFUSED, number_of(fault), &NOTHING)
         }
     }
 }
@@ -247,7 +242,7 @@ fn show_record(mode: Mode, count: usize, wire: &[u8]) {
 fn put_title(out: &mut [u8], word: &[u8], mode: Mode, count: usize) -> usize {
     let at = text::append(out, 0, word);
     let claims = put_mode(out, at, mode);
-    text::append_numbered(out, claims, &GAP, count as u64, &NONE)
+    text::append_numbered(out, claims, &GAP, count as u64, &NOTHING)
 }
 
 // The same count in every mode.

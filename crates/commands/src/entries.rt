@@ -1,14 +1,10 @@
 // The directory's lines, appended to lent memory at a place.
-// A line is written whole or not at all, and is the definition's to the byte: specs/Lines.antt of `answers`.
-// It stands on the pieces of a line: words, and numbers between them.
+// A line is written whole or not at all, and is the definition's to the byte: lister/specs/Lines.antt.
 ghost use Rattle.text.specs.Appended.{appended, Leaves};
 ghost use Rattle.lister.specs.Lines.{entryLine};
-
-const GAP: [u8; 1] = *b" ";
-
-const NOTHING: [u8; 0] = *b"";
-
-const LINE_END: [u8; 1] = *b"\n";
+use text::GAP;
+use text::LINE_END;
+use text::NOTHING;
 
 // "CCCC L G": a command, and the least and the greatest length of its data.
 pub fn entry_line(out: &mut [u8], at: usize, command: u16, least: u8, greatest: u8) -> usize

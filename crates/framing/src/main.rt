@@ -3,6 +3,12 @@
 use frame::Written;
 use frame::WrittenAt;
 use libc::STDOUT_FILENO;
+use text::COLON;
+use text::DATA;
+use text::GAP;
+use text::LINE_END;
+use text::NOTHING;
+use text::PACKET;
 
 // What a view shows, copied.
 struct Copied {
@@ -16,18 +22,6 @@ const PAGE: usize = 2048;
 
 // What stands in a room before it is written.
 const FILLER: u8 = 0xA5;
-
-const NONE: [u8; 0] = [];
-
-const GAP: [u8; 1] = *b" ";
-
-const COLON: [u8; 1] = *b":";
-
-const LINE_END: [u8; 1] = *b"\n";
-
-const PACKET: [u8; 8] = *b" packet ";
-
-const DATA: [u8; 6] = *b" data ";
 
 const WRITES: [u8; 8] = *b" writes ";
 
@@ -108,7 +102,7 @@ fn show_short_room(name: &[u8], n: usize) {
 
 fn put_place(out: &mut [u8], at: usize, answer: WrittenAt) -> usize {
     match answer {
-        WrittenAt::UpTo(k) => text::append_numbered(out, at, &UP_TO, k as u64, &NONE),
+        WrittenAt::UpTo(k) => text::append_numbered(out, at, &UP_TO, k as u64, &NOTHING),
         WrittenAt::NoFit => text::append(out, at, &NO_FIT),
         WrittenAt::LongData => text::append(out, at, &LONG_DATA),
     }
@@ -124,7 +118,7 @@ fn show_at(start: usize, n: usize) {
     let mut page = [0u8; PAGE];
     let answer = frame::write_at(&mut room, start, 0x0102, &payload[0..n]);
     let from = text::append_numbered(&mut page, 0, &FROM, start as u64, &DATA);
-    let data = text::append_numbered(&mut page, from, &NONE, n as u64, &COLON);
+    let data = text::append_numbered(&mut page, from, &NOTHING, n as u64, &COLON);
     let told = put_place(&mut page, data, answer);
     let end = text::bytes_line(&mut page, told, &ROOM, 13, &GAP, &room, &LINE_END);
     print(&page, end);
@@ -192,7 +186,7 @@ fn show_view(name: &[u8], packet: &[u8]) {
     let end = text::bytes_line(
         &mut page,
         shows,
-        &NONE,
+        &NOTHING,
         seen.command as u64,
         &DATA,
         &data[0..len],

@@ -1,17 +1,14 @@
 // The lines of a capture's outcomes, written part by part.
-// What is written for some bytes, and how the reading stands after them, is the definition's: crate lister, specs/Listing.antt,
-// specs/Lists.antt. It stands on what the frame layer, the listing and the text lines state.
+// What is written for some bytes, and how the reading stands after them, is the definition's: specs/Listing.antt, specs/Lists.antt.
 ghost use Prim.Native.Nat.{_≤_};
 ghost use mathlib.Core.Path.{_≡_};
 ghost use lib.ListN.{length};
 ghost use Rattle.frame.specs.Reader.{taken};
 ghost use Rattle.lister.specs.Lists.{Lists, listedOf};
 use crate::Listed;
+use crate::lines::LINE;
 use line::Place;
 use line::Reading;
-
-// No line is longer: with that much room a call goes on.
-const LINE: usize = crate::lines::LINE;
 
 // Writes the lines of the outcomes of `wire` to the front of `out`, as long as there is room for any line.
 pub fn list(reading: Reading, left: u64, wire: &[u8], out: &mut [u8]) -> Listed
@@ -22,6 +19,7 @@ pub fn list(reading: Reading, left: u64, wire: &[u8], out: &mut [u8]) -> Listed
     let mut at = 0;
     let mut written = 0;
     while at < wire.len() {
+        // With room for the longest line a call goes on.
         if out.len() - written < LINE {
             return answer(bytes, place, left, wire, at, written);
         }

@@ -1,11 +1,8 @@
 // The wire bytes since the last END, and the last line of a listing, which tells them.
-// The count and the line are the definition's: crate lister, specs/Listing.antt, specs/Lists.antt.
-// It stands on what the listing and the text lines state.
+// The count and the line are the definition's: specs/Listing.antt, specs/Lists.antt.
 ghost use mathlib.Core.Path.{_≡_};
 ghost use Rattle.lister.specs.Listing.{leftAfter, capped};
 ghost use Rattle.lister.specs.Lists.{LastLine};
-
-const END: u8 = 192;
 
 const MOST: u64 = 18446744073709551615;
 
@@ -23,7 +20,7 @@ pub(crate) fn left_after(left: u64, wire: &[u8]) -> u64
     let n = wire.len();
     let mut i = n;
     while 0 < i {
-        if wire[i - 1] == END {
+        if wire[i - 1] == line::END {
             return (n - i) as u64;
         }
         i -= 1;

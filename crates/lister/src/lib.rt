@@ -1,6 +1,6 @@
-// The listing's type and definitions: a line for each outcome of a capture, and the wire bytes since the last END.
-// The definition is specs/Listing.antt; what a call promises is specs/Lists.antt. The code is in `listed`, `tally` and `capture`.
-// It stands on what the frame layer and the text lines state.
+// The listing of a capture: a line for each outcome of its bytes, and the wire bytes since the last END, written part by part.
+// The definition is specs/Listing.antt, what a call promises specs/Lists.antt; specs/Whole.antt: however a capture is cut into calls, they
+// write the listing of the whole. It stands on what `frame` and `text` promise.
 mod capture;
 mod left;
 mod lines;

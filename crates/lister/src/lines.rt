@@ -1,25 +1,21 @@
 // The lines of the listing, appended to lent memory at a place.
-// A line is written whole or not at all, and is the definition's to the byte: specs/Lines.antt of `answers`.
-// It stands on the pieces of a line, words and digits.
+// A line is written whole or not at all, and is the definition's to the byte: specs/Lines.antt.
 ghost use Prim.Native.Nat.{_+_, _≤_};
 ghost use mathlib.Core.List.{_++_};
 ghost use lib.ListN.{length};
 ghost use Rattle.text.specs.Text.{ascii, decimal};
 ghost use Rattle.text.specs.Appended.{appended, Leaves};
 ghost use Rattle.lister.specs.Lines.{frameLine, refusedLine, leftLine};
+use text::DATA;
+use text::LINE_END;
+use text::REFUSED;
 
 // No line is longer.
 pub const LINE: usize = 40;
 
 const FRAME: [u8; 6] = *b"frame ";
 
-const DATA: [u8; 6] = *b" data ";
-
-const REFUSED: [u8; 8] = *b"refused ";
-
 const LEFT: [u8; 5] = *b"left ";
-
-const LINE_END: [u8; 1] = *b"\n";
 
 // "frame CCCC data D": a frame's command, and how many data bytes it has.
 pub(crate) fn frame_line(out: &mut [u8], at: usize, command: u16, len: usize) -> usize

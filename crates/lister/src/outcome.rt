@@ -1,6 +1,5 @@
 // The line of an outcome, appended to lent memory at a place.
-// It is written whole or not at all, and is the definition's: crate lister, specs/Listing.antt, specs/Lists.antt.
-// It stands on what the frame layer, the listing and the text lines state.
+// It is written whole or not at all, and is the definition's: specs/Listing.antt, specs/Lists.antt.
 ghost use Rattle.text.specs.Appended.{appended, Leaves};
 ghost use Rattle.lister.specs.Lists.{givenLine};
 use frame::FrameOutcome;

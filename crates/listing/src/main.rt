@@ -1,5 +1,5 @@
 // Lists a capture: reads standard input to its end, writes a line for each outcome, then the wire bytes since the last END.
-// It stops where the input cannot be read or the output is not taken. The text is made by proved functions of `capture` and `tally`.
+// It stops where the input cannot be read or the output is not taken. The text is made by proved functions of `lister`.
 use libc::STDIN_FILENO;
 use libc::STDOUT_FILENO;
 use line::Reading;

@@ -1,5 +1,5 @@
 // Replays a script of calls on one hub, one table and four reading records, and answers each (the format: docs/REPLAY.md).
-// It stops where the input cannot be read or the output is not taken. The input is cut at LF here, and each line is played by `playing`.
+// It stops where the input cannot be read or the output is not taken. The input is cut at LF here, and each line is played by `transcript`.
 ghost use Prim.Native.Nat.{_+_, _≤_, _<_};
 ghost use mathlib.Core.Path.{_≡_};
 ghost use lib.ListN.{length};

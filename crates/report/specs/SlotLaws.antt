@@ -4,9 +4,10 @@ use mathlib.Core.List.{List}
 use mathlib.Core.Bool.{Bool, true, false}
 use native.Mathlib.Omega.{arith}
 use lib.ListN.{length, length-append, getD}
+use Rattle.sessions.specs.Sessions.{targetCount}
 use Rattle.text.specs.Text.{ascii}
 use Rattle.text.specs.DecimalLaws.{decimal-below}
-use Rattle.report.specs.State.{targetCount, nodeWord, nodesBelow}
+use Rattle.report.specs.State.{nodeWord, nodesBelow}
 
 pub nodeWord-short : (node : ℕ) (marked : Bool) → node < targetCount → length (nodeWord node marked) ≤ 4
 unfolding nodeWord ascii

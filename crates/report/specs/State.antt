@@ -3,10 +3,12 @@ use Prim.Native.Nat.{ℕ, zero, suc}
 use mathlib.Core.List.{List, [], _∷_, _++_}
 use mathlib.Core.Bool.{Bool, true, false}
 use lib.ListN.{getD}
+use Rattle.sessions.specs.Sessions.{targetCount}
 use Rattle.text.specs.Text.{ascii, decimal, hex4}
 use Rattle.text.specs.Bytes.{bytesWord}
-use Rattle.report.specs.declared.Mode.{Mode}
-use Rattle.report.specs.declared.Mode.the-variants as mode
+use Rattle.line.specs.declared.Fault.the-variants as fault
+use Rattle.line.specs.declared.Mode.{Mode}
+use Rattle.line.specs.declared.Mode.the-variants as mode
 
 -- room for a slot's line
 abbrev pub slotSize : ℕ
@@ -21,10 +23,6 @@ flag false = 48
 unfoldable pub loginLine : List Bool → List ℕ
 loginLine logins =
     ascii "login " ++ (flag (getD logins 0 false) ∷ flag (getD logins 1 false) ∷ flag (getD logins 2 false) ∷ flag (getD logins 3 false) ∷ []) ++ ascii "\n"
-
--- a session's nodes are 0 to 199
-abbrev pub targetCount : ℕ
-targetCount = 200
 
 -- a node, where it is marked
 unfoldable pub nodeWord : ℕ → Bool → List ℕ
@@ -45,11 +43,12 @@ slotLine slot session line nodes =
 unfoldable pub nodeLine : ℕ → List ℕ → List ℕ
 nodeLine node fields = ascii "node " ++ decimal node ++ ascii " " ++ bytesWord fields ++ ascii "\n"
 
+-- how a reading stands; one that skips tells the refusal that is due at the END
 unfoldable pub modeWord : Mode → List ℕ
 modeWord mode.Plain = ascii "plain"
 modeWord mode.Escaped = ascii "escaped"
-modeWord mode.Skip1 = ascii "skip1"
-modeWord mode.Skip2 = ascii "skip2"
+modeWord (mode.Skipping fault.WrongEscape) = ascii "skip1"
+modeWord (mode.Skipping fault.TooLong) = ascii "skip2"
 
 -- a line's reading: how it stands, and the bytes held
 unfoldable pub readingLine : ℕ → Mode → List ℕ → List ℕ

@@ -3,10 +3,12 @@ use mathlib.Core.Path.{_≡_, refl}
 use mathlib.Core.List.{List, [], _∷_}
 use mathlib.Core.Bool.{Bool, true, false}
 use lib.ListN.{set, replicate}
+use Rattle.sessions.specs.Sessions.{targetCount}
 use Rattle.text.specs.Text.{ascii, digit, decimalIn, decimal}
 use Rattle.text.specs.Bytes.{hexPairs, bytesWord}
-use Rattle.report.specs.State.{flag, loginLine, targetCount, nodeWord, nodesBelow, slotLine, nodeLine, modeWord, readingLine, endLine}
-use Rattle.report.specs.declared.Mode.the-variants as mode
+use Rattle.report.specs.State.{flag, loginLine, nodeWord, nodesBelow, slotLine, nodeLine, modeWord, readingLine, endLine}
+use Rattle.line.specs.declared.Fault.the-variants as fault
+use Rattle.line.specs.declared.Mode.the-variants as mode
 
 login-some : loginLine (true ∷ false ∷ false ∷ true ∷ []) ≡ ascii "login 1001\n"
 unfolding ascii flag loginLine
@@ -40,11 +42,11 @@ reading-escaped : readingLine 1 mode.Escaped [] ≡ ascii "line 1 escaped -\n"
 unfolding ascii digit decimalIn decimal hexPairs bytesWord modeWord readingLine
 reading-escaped = refl
 
-reading-wrong-escape : readingLine 2 mode.Skip1 [] ≡ ascii "line 2 skip1 -\n"
+reading-wrong-escape : readingLine 2 (mode.Skipping fault.WrongEscape) [] ≡ ascii "line 2 skip1 -\n"
 unfolding ascii digit decimalIn decimal hexPairs bytesWord modeWord readingLine
 reading-wrong-escape = refl
 
-reading-too-long : readingLine 3 mode.Skip2 [] ≡ ascii "line 3 skip2 -\n"
+reading-too-long : readingLine 3 (mode.Skipping fault.TooLong) [] ≡ ascii "line 3 skip2 -\n"
 unfolding ascii digit decimalIn decimal hexPairs bytesWord modeWord readingLine
 reading-too-long = refl
 

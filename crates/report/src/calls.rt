@@ -1,35 +1,13 @@
-// What the replayed calls answer: lines of text, appended to lent memory at a place.
-// A line is written whole or not at all, and is the definition's to the byte: specs/Report.antt of `answers`.
-// It stands on the pieces of a line: words, and numbers between them. Lines with a reply are in `replied`.
+// The line of a call that was refused, and whether a call wrote behind its reply. Lines with a reply are in `replies`.
+// A line is written whole or not at all, and is the definition's to the byte: specs/Report.antt.
 ghost use mathlib.Core.Bool.{not, _||_};
 ghost use lib.Dec.{eqb};
 ghost use mathlib.Core.Path.{_≡_};
 ghost use Rattle.text.specs.Appended.{appended, Leaves};
-ghost use Rattle.report.specs.Report.{badLine, doneLine, refusedLine, hasSpilled};
-
-const BAD: [u8; 9] = *b"bad line\n";
-
-const DONE: [u8; 5] = *b"done\n";
-
-const REFUSED: [u8; 8] = *b"refused ";
-
-const SPILLED: [u8; 9] = *b" spilled\n";
-
-const LINE_END: [u8; 1] = *b"\n";
-
-// "bad line"
-pub fn bad_line(out: &mut [u8], at: usize) -> usize
-    ensures { λ r. ⌜ Leaves (appended (now (out .entry)) at badLine) (now (out .exit)) r ⌝ }
-{
-    text::append(out, at, &BAD)
-}
-
-// "done"
-pub fn done_line(out: &mut [u8], at: usize) -> usize
-    ensures { λ r. ⌜ Leaves (appended (now (out .entry)) at doneLine) (now (out .exit)) r ⌝ }
-{
-    text::append(out, at, &DONE)
-}
+ghost use Rattle.report.specs.Report.{refusedLine, hasSpilled};
+use crate::SPILLED;
+use text::LINE_END;
+use text::REFUSED;
 
 // "refused N": the number of a call's refusal.
 pub fn refused_line(out: &mut [u8], at: usize, number: u8, spilled: bool) -> usize

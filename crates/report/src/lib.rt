@@ -1,28 +1,33 @@
-// What the programs write, line by line, as bytes: definitions and their values at some places (specs/). The code that writes the lines stands above.
+// The lines that a replay writes: what its calls answer, and the state that `show` tells, each appended to lent memory at a place.
+// A line is written whole or not at all, and is the definition's to the byte (specs/Report.antt, specs/State.antt).
+// It stands on the pieces of a line (`text`), and on `line` and `sessions` for a reading's modes and how many nodes a session may hold.
 mod calls;
 mod outcomes;
-mod replied;
+mod replies;
 mod slots;
 mod state;
 
-pub use calls::bad_line;
-pub use calls::done_line;
 pub use calls::refused_line;
 pub use calls::spilled;
 pub use outcomes::frame_line;
 pub use outcomes::packet_line;
-pub use replied::finished_line;
-pub use replied::none_line;
+pub use replies::finished_line;
+pub use replies::none_line;
 pub use slots::slot_line;
-pub use state::end_line;
 pub use state::login_line;
 pub use state::node_line;
 pub use state::reading_line;
 
-// How a line's reading stands: between whole bytes, right after an ESC, or skipping after refusal 1 or 2.
-pub enum Mode {
-    Plain,
-    Escaped,
-    Skip1,
-    Skip2,
-}
+// Lines that are always the same: for a line that is no call, for a call that was made, and the last of the state.
+pub const BAD_LINE: [u8; 9] = *b"bad line\n";
+
+pub const DONE_LINE: [u8; 5] = *b"done\n";
+
+pub const END_LINE: [u8; 4] = *b"end\n";
+
+// Words of several lines.
+const USED: [u8; 5] = *b"used ";
+
+const REPLY: [u8; 7] = *b" reply ";
+
+const SPILLED: [u8; 9] = *b" spilled\n";

@@ -1,21 +1,16 @@
 // What a replayed feed answers that ended a packet: lines of text, appended to lent memory at a place.
-// A line is written whole or not at all, and is the definition's to the byte: specs/Report.antt of `answers`.
-// It stands on the pieces of a line, and on the line with a reply.
+// A line is written whole or not at all, and is the definition's to the byte: specs/Report.antt.
 ghost use Rattle.text.specs.Appended.{appended, Leaves};
 ghost use Rattle.report.specs.Report.{frameLine, packetLine};
+use crate::REPLY;
+use crate::USED;
+use text::DATA;
+use text::PACKET;
 
 // No line is longer in front of its last number.
 const HEAD: usize = 42;
 
-const USED: [u8; 5] = *b"used ";
-
 const FRAME: [u8; 7] = *b" frame ";
-
-const DATA: [u8; 6] = *b" data ";
-
-const PACKET: [u8; 8] = *b" packet ";
-
-const REPLY: [u8; 7] = *b" reply ";
 
 // "used U frame CCCC data D reply BYTES": a frame's command, and how many data bytes it has.
 pub fn frame_line(
@@ -33,7 +28,7 @@ pub fn frame_line(
     let hex = text::append_numbered(&mut head, 0, &USED, used as u64, &FRAME);
     let word = text::append_hex4(&mut head, hex, command);
     let end = text::append(&mut head, word, &DATA);
-    crate::replied::reply_line(out, at, &head[0..end], len as u64, &REPLY, reply, spilled)
+    crate::replies::reply_line(out, at, &head[0..end], len as u64, &REPLY, reply, spilled)
 }
 
 // "used U packet R reply BYTES": the number of a packet's refusal.
@@ -49,7 +44,7 @@ pub fn packet_line(
 {
     let mut head = [0; HEAD];
     let end = text::append_numbered(&mut head, 0, &USED, used as u64, &PACKET);
-    crate::replied::reply_line(
+    crate::replies::reply_line(
         out,
         at,
         &head[0..end],

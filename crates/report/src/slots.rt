@@ -1,29 +1,24 @@
 // An open session's slot as `show` writes it: a line of text, appended to lent memory at a place.
-// It is written whole or not at all, and is the definition's to the byte: specs/Shows.antt of `answers`.
-// It stands on the pieces of a line: words, and numbers between them.
+// It is written whole or not at all, and is the definition's to the byte: specs/State.antt.
 ghost use Prim.Native.Nat.{_+_, _*_, _≤_, _<_};
 ghost use mathlib.Core.Path.{_≡_};
 ghost use mathlib.Core.List.{_++_};
 ghost use lib.ListN.{length};
 ghost use Rattle.memory.specs.Wrote.{Wrote};
+ghost use Rattle.sessions.specs.Sessions.{targetCount};
 ghost use Rattle.text.specs.Text.{ascii, decimal, hex4};
 ghost use Rattle.text.specs.Built.{Built};
 ghost use Rattle.text.specs.Appended.{appended, Leaves};
-ghost use Rattle.report.specs.State.{slotSize, slotLine, targetCount, nodeWord, nodesBelow};
-
-// A session's nodes are 0 to 199.
-pub(crate) const TARGETS: usize = 200;
+ghost use Rattle.report.specs.State.{slotSize, slotLine, nodeWord, nodesBelow};
+use sessions::TARGETS;
+use text::GAP;
+use text::LINE_END;
+use text::NOTHING;
 
 // No line is longer.
 const SLOT_SIZE: usize = 1024;
 
 const SLOT: [u8; 5] = *b"slot ";
-
-const GAP: [u8; 1] = *b" ";
-
-const NOTHING: [u8; 0] = *b"";
-
-const LINE_END: [u8; 1] = *b"\n";
 
 // "slot S NNNN L N N N": an open session's slot, number, line and nodes, ascending.
 pub fn slot_line(

@@ -1,11 +1,13 @@
-// The state as `show` writes it: lines of text, appended to lent memory at a place. A slot's line is in `slotline`.
-// A line is written whole or not at all, and is the definition's to the byte: specs/Shows.antt of `answers`.
-// It stands on words, and on the line that tells bytes.
+// The state as `show` writes it: lines of text, appended to lent memory at a place. A slot's line is in `slots`.
+// A line is written whole or not at all, and is the definition's to the byte: specs/State.antt.
 ghost use mathlib.Core.Path.{_≡_};
+ghost use Rattle.line.specs.declared.Mode.the-variants.{Skipping};
 ghost use Rattle.text.specs.Appended.{appended, Leaves};
-ghost use Rattle.report.specs.State.{loginLine, nodeLine, readingLine, endLine, flag};
+ghost use Rattle.report.specs.State.{loginLine, nodeLine, readingLine, flag};
 ghost use Rattle.report.specs.Word.{IsWord};
-use crate::Mode;
+use line::Fault;
+use line::Mode;
+use text::GAP;
 
 // The word of a reading's mode between two spaces: the first `len` bytes.
 struct Word {
@@ -16,12 +18,6 @@ struct Word {
 const NODE: [u8; 5] = *b"node ";
 
 const LINE: [u8; 5] = *b"line ";
-
-const GAP: [u8; 1] = *b" ";
-
-const LINE_END: [u8; 1] = *b"\n";
-
-const END: [u8; 4] = *b"end\n";
 
 // "login ABCD": a digit for each line, 1 where it is logged in.
 pub fn login_line(out: &mut [u8], at: usize, logins: [bool; 4]) -> usize
@@ -47,7 +43,7 @@ pub fn login_line(out: &mut [u8], at: usize, logins: [bool; 4]) -> usize
 pub fn node_line(out: &mut [u8], at: usize, node: u8, fields: &[u8]) -> usize
     ensures { λ r. ⌜ Leaves (appended (now (out .entry)) at (nodeLine node (now (fields .entry)))) (now (out .exit)) r ⌝ }
 {
-    text::bytes_line(out, at, &NODE, node as u64, &GAP, fields, &LINE_END)
+    crate::replies::reply_line(out, at, &NODE, node as u64, &GAP, fields, false)
 }
 
 // "line L M BYTES": how a line's reading stands, and the bytes held.
@@ -57,14 +53,7 @@ pub fn reading_line(out: &mut [u8], at: usize, line: u8, mode: Mode, held: &[u8]
     let word = mode_word(mode);
     let bytes = word.bytes;
     let len = word.len;
-    text::bytes_line(out, at, &LINE, line as u64, &bytes[0..len], held, &LINE_END)
-}
-
-// "end"
-pub fn end_line(out: &mut [u8], at: usize) -> usize
-    ensures { λ r. ⌜ Leaves (appended (now (out .entry)) at endLine) (now (out .exit)) r ⌝ }
-{
-    text::append(out, at, &END)
+    crate::replies::reply_line(out, at, &LINE, line as u64, &bytes[0..len], held, false)
 }
 
 fn flag(set: bool) -> u8
@@ -88,11 +77,20 @@ fn mode_word(mode: Mode) -> Word
             bytes: *b" escaped ",
             len: 9,
         },
-        Mode::Skip1 => Word {
+        Mode::Skipping(fault) => skip_word(fault),
+    }
+}
+
+// A reading that skips tells the refusal that is due at the END.
+fn skip_word(fault: Fault) -> Word
+    ensures { λ r. ⌜ IsWord (Skipping fault) r ⌝ }
+{
+    match fault {
+        Fault::WrongEscape => Word {
             bytes: *b" skip1   ",
             len: 7,
         },
-        Mode::Skip2 => Word {
+        Fault::TooLong => Word {
             bytes: *b" skip2   ",
             len: 7,
         },

@@ -1,6 +1,5 @@
 // Bytes in hexadecimal digits, as a script has them.
-// Every answer is the definition's: crate script, specs/Script.antt, specs/Answers.antt. It stands on the script's numbers, bytes compared
-// and the store.
+// Every answer is the definition's: specs/Script.antt, specs/Answers.antt.
 ghost use Prim.Native.Nat.{_+_, _*_, _≤_, _<_};
 ghost use mathlib.Core.Path.{_≡_};
 ghost use mathlib.Core.Bool.{true};
@@ -8,9 +7,6 @@ ghost use lib.ListN.{length};
 ghost use Rattle.memory.specs.Wrote.{Wrote};
 ghost use Rattle.script.specs.Script.{hexValue, allHex, isBytes, pairs};
 ghost use Rattle.script.specs.Answers.{fitting};
-
-// The word for no bytes.
-const NONE: [u8; 1] = *b"-";
 
 // The bytes of a word, to the front of `out`, whole or not at all; answers how many. A word that is not proper has none.
 pub fn decode(text: &[u8], out: &mut [u8]) -> usize
@@ -29,7 +25,7 @@ pub fn decode(text: &[u8], out: &mut [u8]) -> usize
 pub(crate) fn is_bytes(text: &[u8]) -> bool
     ensures { λ r. ⌜ r ≡ isBytes (now (text .entry)) ⌝ }
 {
-    if memory::is_same(text, &NONE) {
+    if memory::is_same(text, &text::NO_BYTES) {
         return true;
     }
     if text.len() == 0 {

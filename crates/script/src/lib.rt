@@ -1,5 +1,6 @@
-// The script of `replay`: what a line of text stands for. It has no code; the format is defined in specs/Script.antt.
-// It stands on the codes of characters, on bytes compared, and on the size of the node table.
+// The script of `replay`: the call that a line of text stands for, and the bytes of its words.
+// Every answer is the definition's (specs/Script.antt, specs/Answers.antt); a line that is not exactly right is bad.
+// It stands on bytes compared (`memory`), on the characters of `text`, and on the size of the node table.
 mod hex;
 mod numbers;
 mod parser;

@@ -1,5 +1,5 @@
 // The numbers among the words of a script, and bytes in a range.
-// Every answer is the definition's: crate script, specs/Script.antt, specs/Answers.antt. It stands on the format's definitions.
+// Every answer is the definition's: specs/Script.antt, specs/Code.antt.
 ghost use Prim.Native.Nat.{_≤_};
 ghost use mathlib.Core.Path.{_≡_};
 ghost use lib.ListN.{length};

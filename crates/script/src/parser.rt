@@ -1,6 +1,5 @@
 // A line of a script becomes a call; a line that is not exactly right is bad.
-// The answer is the definition's: crate script, specs/Script.antt, specs/Answers.antt. It stands on the format's definitions, its numbers
-// and bytes, and on words compared.
+// The answer is the definition's: specs/Script.antt, specs/Answers.antt.
 ghost use mathlib.Core.Path.{_≡_};
 ghost use Rattle.script.specs.Script.{tableOf, startOf, enrolOf, feedOf, closeOf, finishOf, showOf, called, parse};
 ghost use Rattle.script.specs.Answers.{Tells};

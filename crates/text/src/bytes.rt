@@ -1,6 +1,5 @@
 // A line that tells a number and some bytes in hexadecimal, appended to lent memory at a place.
-// It is written whole or not at all, and is the definition's to the byte: specs/Bytes.antt of `answers`.
-// It stands on the pieces of a line: words, and numbers between them.
+// It is written whole or not at all, and is the definition's to the byte: specs/Bytes.antt, specs/Appended.antt.
 ghost use Prim.Native.Nat.{_+_, _*_, _≤_};
 ghost use mathlib.Core.Path.{_≡_};
 ghost use mathlib.Core.List.{_++_};
@@ -10,9 +9,6 @@ ghost use Rattle.memory.specs.Wrote.{Wrote};
 ghost use Rattle.text.specs.Bytes.{hex2, hexPairs, bytesWord, wordLength};
 ghost use Rattle.text.specs.Text.{decimal};
 ghost use Rattle.text.specs.Appended.{appended, Leaves};
-
-// The word for no bytes.
-const NONE: [u8; 1] = *b"-";
 
 // A number between two words, some bytes, and the line's end.
 pub fn bytes_line(
@@ -59,7 +55,7 @@ fn put_bytes(out: &mut [u8], at: usize, bytes: &[u8]) -> usize
     ensures { λ r. ⌜ Wrote (now (out .entry)) at (bytesWord (now (bytes .entry))) (now (out .exit)) r ⌝ }
 {
     if bytes.len() == 0 {
-        return crate::words::append(out, at, &NONE);
+        return crate::words::append(out, at, &crate::words::NO_BYTES);
     }
     hex_pairs(out, at, bytes)
 }

@@ -1,6 +1,5 @@
 // Numbers as the programs write them, in base ten and in four hexadecimal digits, appended to lent memory at a place.
-// A number is written whole or not at all, and is the definition's to the byte: specs/Text.antt, specs/Appended.antt of `text`.
-// It stands on the room for words.
+// A number is written whole or not at all, and is the definition's to the byte: specs/Text.antt, specs/Appended.antt.
 ghost use Prim.Native.Nat.{_+_, _%_, _≤_};
 ghost use mathlib.Core.Path.{_≡_};
 ghost use lib.ListN.{length};

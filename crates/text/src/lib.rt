@@ -1,6 +1,6 @@
-// The pieces of the programs' lines as bytes, and what appending one to lent memory leaves: definitions and their laws
-// (specs/Text.antt, specs/Appended.antt, specs/Built.antt). The code stands above: `words`, `digits`, `numbered`.
-// It stands on the store's runs of bytes.
+// The pieces of the programs' lines: words, numbers and bytes in hexadecimal, each appended to lent memory at a place.
+// A piece is written whole or not at all, and is the definition's to the byte (specs/Text.antt, specs/Bytes.antt, specs/Appended.antt).
+// It stands on `memory`.
 mod bytes;
 mod digits;
 mod numbered;
@@ -11,5 +11,13 @@ pub use digits::append_decimal;
 pub use digits::append_hex4;
 pub use digits::width;
 pub use numbered::append_numbered;
+pub use words::COLON;
+pub use words::DATA;
+pub use words::GAP;
+pub use words::LINE_END;
+pub use words::NO_BYTES;
+pub use words::NOTHING;
+pub use words::PACKET;
+pub use words::REFUSED;
 pub use words::append;
 pub use words::room;

@@ -1,6 +1,5 @@
 // A number between two words, appended to lent memory at a place: what most of the programs' lines are made of.
-// The three are written whole or not at all, and are the definition's to the byte: specs/Text.antt, specs/Appended.antt of `text`.
-// It stands on words and digits.
+// The three are written whole or not at all, and are the definition's to the byte: specs/Text.antt, specs/Appended.antt.
 ghost use Prim.Native.Nat.{_-_};
 ghost use mathlib.Core.Path.{_≡_};
 ghost use mathlib.Core.List.{_++_};

@@ -1,11 +1,11 @@
 pub mod Lines
 pub mod State
 pub mod Replies
-pub mod Playing
+pub mod World
 pub mod LinesLaws
 pub mod StateLaws
-pub mod PlayingLaws
-pub mod PlayingVectors
+pub mod WorldLaws
+pub mod WorldVectors
 pub mod StateVectors
 pub mod RepliesVectors
 pub mod Plays

@@ -7,8 +7,8 @@ use Rattle.frame.specs.Reader.{taken, emptiedReading}
 use Rattle.rules.specs.Hub.{lineCount, firstHub}
 use Rattle.text.specs.Appended.{Leaves}
 use Rattle.transcript.specs.Lines.{appendedAll}
-use Rattle.transcript.specs.Playing.{World, Played}
-use Rattle.transcript.specs.declared.playing.Run.{Run}
+use Rattle.transcript.specs.World.{World, Played}
+use Rattle.transcript.specs.declared.Run.{Run}
 
 -- a run and the table buffer, as they are compared: each record by the state that it is taken as
 abbrev pub worldOf : Run → List ℕ → World

@@ -3,7 +3,7 @@ use Prim.Native.Nat.{ℕ}
 use mathlib.Core.Path.{_≡_, refl}
 use lib.ListN.{replicate}
 use Rattle.script.specs.Script.{tableMost}
-use Rattle.transcript.specs.Playing.{firstWorld}
+use Rattle.transcript.specs.World.{firstWorld}
 use Rattle.transcript.specs.Plays.{worldOf, firstRun}
 
 pub first-world : worldOf firstRun (replicate {A = ℕ} tableMost 0) ≡ firstWorld

@@ -4,15 +4,14 @@ use mathlib.Core.List.{List, [], _∷_, _++_}
 use mathlib.Core.Bool.{cond}
 use lib.ListN.{length, getD}
 use lib.Dec.{leb}
-use Rattle.line.specs.declared.Fault.the-variants as fault
+use Rattle.line.specs.declared.Mode.{Mode}
+use Rattle.line.specs.declared.Mode.the-variants as mode
 use Rattle.frame.specs.Reader.{State, plain, escaped, skipping, emptied, held}
 use Rattle.nodes.specs.Table.{nodeCount, recordSize, recordOf}
 use Rattle.sessions.specs.declared.Slot.{Slot}
 use Rattle.sessions.specs.Sessions.{slotCount, closedSlot}
 use Rattle.rules.specs.declared.Hub.{Hub}
 use Rattle.rules.specs.Hub.{lineCount}
-use Rattle.report.specs.declared.Mode.{Mode}
-use Rattle.report.specs.declared.Mode.the-variants as mode
 use Rattle.report.specs.Report.{hasOther}
 use Rattle.report.specs.State.{loginLine, slotLine, nodeLine, readingLine, endLine}
 use Rattle.transcript.specs.Lines.{linesBelow}
@@ -33,8 +32,7 @@ nodeLines t n = cond (leb (n * recordSize + recordSize) (length t)) (recordLines
 unfoldable pub modeOf : State → Mode
 modeOf (plain h) = mode.Plain
 modeOf (escaped h) = mode.Escaped
-modeOf (skipping fault.WrongEscape) = mode.Skip1
-modeOf (skipping fault.TooLong) = mode.Skip2
+modeOf (skipping f) = mode.Skipping f
 
 -- a reading, as its record is taken
 unfoldable pub readingLines : ℕ → State → List (List ℕ)

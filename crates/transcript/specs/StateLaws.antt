@@ -1,7 +1,7 @@
 -- What a reading shows where it is taken at some place.
 use Prim.Native.Nat.{ℕ}
 use mathlib.Core.Path.{_≡_, refl}
-use mathlib.Core.List.{List, []}
+use mathlib.Core.List.{List}
 use lib.ListN.{take}
 use Rattle.line.specs.declared.Mode.{Mode}
 use Rattle.line.specs.declared.Mode.the-variants as mode
@@ -14,7 +14,7 @@ held-at bs n mode.Plain c = refl
 held-at bs n mode.Escaped c = refl
 held-at bs n (mode.Skipping f) c = rw c
 
-pub modeOf-at : (h : List ℕ) (m : Mode) → modeOf (at h m) ≡ modeOf (at [] m)
+pub modeOf-at : (h : List ℕ) (m : Mode) → modeOf (at h m) ≡ m
 unfolding modeOf
 modeOf-at h mode.Plain = refl
 modeOf-at h mode.Escaped = refl

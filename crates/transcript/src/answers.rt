@@ -1,6 +1,5 @@
 // What the replayed calls answer: lines of text, appended to lent memory at a place.
-// A line is written whole or not at all, and is the definition's to the byte: crate transcript, specs/Replies.antt.
-// It stands on the lines of `report`, `replied` and `outcomes`, and on the answers that `calls` declares.
+// A line is written whole or not at all, and is the definition's to the byte: specs/Replies.antt.
 ghost use Prim.Native.Nat.{_≤_};
 ghost use mathlib.Core.Path.{_≡_};
 ghost use lib.ListN.{length, take};
@@ -20,13 +19,8 @@ pub(crate) fn call_line(out: &mut [u8], at: usize, answer: CallAnswer) -> usize
     ensures { λ r. ⌜ Leaves (appended (now (out .entry)) at (callLine answer)) (now (out .exit)) r ⌝ }
 {
     match answer {
-        CallAnswer::Done => report::done_line(out, at),
-        CallAnswer::Refused(refusal) => report::refused_line(
-            out,
-            at,
-            rules::number(refusal),
-            false,
-        ),
+        CallAnswer::Done => text::append(out, at, &report::DONE_LINE),
+        CallAnswer::Refused(refusal) => report::refused_line(out, at, rules::number(refusal), false),
     }
 }
 

@@ -1,14 +1,21 @@
-// What `replay` does and writes: a line's call made on hub, table and readings, its answer, and the state (docs/REPLAY.md).
-// It has no code. A line played is specs/Playing.antt, the answers' lines specs/Replies.antt, the state's specs/State.antt; the code is in
-// `playing`, `answering` and `showing`.
-// It stands on the script's calls and the lines of `answers`, and on what the line and the frame layer, the node table, the sessions, the
-// lists of feeds and the hub state.
+// A script replayed: each line's call is made on hub, table and the lines' records, and its answer is written (docs/REPLAY.md).
+// What a line answers and leaves is the definition's: specs/World.antt, and what `play` promises specs/Plays.antt.
+// It stands on the calls of `script`, on what `hub` promises, and on the lines of `report`.
 mod answers;
-mod playing;
 mod state;
+mod world;
 
 pub use answers::FILLER;
 pub use answers::feed_line;
-pub use playing::Run;
-pub use playing::first;
-pub use playing::play;
+use line::Reading;
+use rules::Hub;
+use rules::LINES;
+pub use world::first;
+pub use world::play;
+
+// What lasts from line to line beside the table, and the place in the output.
+pub struct Run {
+    pub hub: Hub,
+    pub readings: [Reading; LINES],
+    pub at: usize,
+}

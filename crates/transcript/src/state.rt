@@ -1,19 +1,15 @@
 // The state as `show` writes it: lines of text, appended one behind the other to lent memory at a place.
-// Each is written whole or not at all, and they are the definition's to the byte: crate transcript, specs/State.antt.
-// It stands on the lines of `shows` and `slotline`, and on where `escape` takes up a reading.
+// Each is written whole or not at all, and they are the definition's to the byte: specs/State.antt.
 ghost use Prim.Native.Nat.{_<_};
-ghost use mathlib.Core.Path.{_≡_};
-ghost use mathlib.Core.List.{[], map};
+ghost use mathlib.Core.List.{map};
 ghost use lib.ListN.{getD};
 ghost use Rattle.text.specs.Appended.{Leaves};
-ghost use Rattle.frame.specs.Reader.{skipping, at, emptied, taken};
+ghost use Rattle.frame.specs.Reader.{emptied, taken};
 ghost use Rattle.nodes.specs.Table.{nodeCount};
 ghost use Rattle.sessions.specs.Sessions.{slotCount, closedSlot};
 ghost use Rattle.rules.specs.Hub.{lineCount};
 ghost use Rattle.transcript.specs.Lines.{appendedAll, linesBelow};
-ghost use Rattle.transcript.specs.State.{slotLines, recordLines, nodeLines, modeOf, readingLines, stateLines};
-use line::Fault;
-use line::Mode;
+ghost use Rattle.transcript.specs.State.{slotLines, recordLines, nodeLines, readingLines, stateLines};
 use line::Reading;
 use rules::Hub;
 use rules::LINES;
@@ -36,7 +32,7 @@ pub(crate) fn show(
     let first_node = show_slots(out, first_slot, slots);
     let first_reading = show_nodes(out, first_node, table);
     let last = show_readings(out, first_reading, readings);
-    report::end_line(out, last)
+    text::append(out, last, &report::END_LINE)
 }
 
 fn show_slots(out: &mut [u8], at: usize, slots: [Slot; SLOTS]) -> usize
@@ -119,24 +115,5 @@ fn show_reading(out: &mut [u8], at: usize, k: u8, reading: Reading) -> usize
     let place = line::taken_place(reading);
     let mode = place.mode;
     let n = place.count;
-    report::reading_line(out, at, k, mode_of(mode), &bytes[0..n])
-}
-
-fn mode_of(mode: Mode) -> report::Mode
-    ensures { λ r. ⌜ r ≡ modeOf (at [] mode) ⌝ }
-{
-    match mode {
-        Mode::Plain => report::Mode::Plain,
-        Mode::Escaped => report::Mode::Escaped,
-        Mode::Skipping(fault) => skip_of(fault),
-    }
-}
-
-fn skip_of(fault: Fault) -> report::Mode
-    ensures { λ r. ⌜ r ≡ modeOf (skipping fault) ⌝ }
-{
-    match fault {
-        Fault::WrongEscape => report::Mode::Skip1,
-        Fault::TooLong => report::Mode::Skip2,
-    }
+    report::reading_line(out, at, k, mode, &bytes[0..n])
 }

@@ -4,7 +4,8 @@ use native.Mathlib.Numerals.{add-one}
 use native.Mathlib.Omega.{arith}
 use Rattle.memory.specs.Wrote.{Wrote}
 use Rattle.memory.specs.WroteLaws.{none, then, kept}
-use Rattle.report.specs.State.{targetCount, nodesBelow}
+use Rattle.sessions.specs.Sessions.{targetCount}
+use Rattle.report.specs.State.{nodesBelow}
 use Rattle.report.specs.SlotLaws.{nodesBelow-short}
 use Rattle.report.proofs.slots.put_nodes.Statement.{statement}
 use Rattle.report.proofs.slots.put_nodes.Tie as tie

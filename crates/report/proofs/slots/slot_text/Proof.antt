@@ -5,7 +5,8 @@ use Rattle.text.specs.Text.{ascii, decimal, hex4}
 use Rattle.text.specs.Built.{Built}
 use Rattle.text.specs.BuiltLaws.{built-wrote, built-word, built-all, built-room}
 use Rattle.text.specs.NumberedLaws.{built-word-number}
-use Rattle.report.specs.State.{slotSize, targetCount, nodesBelow, slotLine}
+use Rattle.sessions.specs.Sessions.{targetCount}
+use Rattle.report.specs.State.{slotSize, nodesBelow, slotLine}
 use Rattle.report.specs.SlotLaws.{nodesBelow-short}
 use borrow.Author.Needs.{needs}
 use Rattle.report.proofs.slots.slot_text.Statement.{statement}

@@ -12,11 +12,11 @@ enum-told c = search needs
 enum-told-2 : tie.Need-enum-told-2
 enum-told-2 c = search needs
 
-enum-told-3 : tie.Need-enum-told-3
-enum-told-3 c = search needs
+enum-known-mode : tie.Need-enum-known-mode
+enum-known-mode c = search needs
 
-enum-told-4 : tie.Need-enum-told-4
-enum-told-4 c = search needs
+skip-word-requires : tie.Need-skip-word-requires
+skip-word-requires c κs = search needs
 
 returns : tie.Need-returns
 unfolding modeWord ascii
@@ -27,14 +27,16 @@ unfolding modeWord ascii
 returns-2 c = rw (c .before .before .enum-told2 .given .1) (record { within = omega arith; text = refl })
 
 returns-3 : tie.Need-returns-3
-unfolding modeWord ascii
-returns-3 c = rw (c .before .before .enum-told3 .given .1) (record { within = omega arith; text = refl })
-
-returns-4 : tie.Need-returns-4
-unfolding modeWord ascii
-returns-4 c = rw (c .before .before .enum-told4 .given .1) (record { within = omega arith; text = refl })
+returns-3 c = rw (c .before .before .mode .given .1) (c .skip-word .ensures)
 
 pub mode-word-spec : {M : Type 1} → statement M
 mode-word-spec =
     tie.close
-    (tie.spec enum-told enum-told-2 enum-told-3 enum-told-4 returns returns-2 returns-3 returns-4)
+    (tie.spec
+    enum-told
+    enum-told-2
+    enum-known-mode
+    skip-word-requires
+    returns
+    returns-2
+    returns-3)

@@ -2,6 +2,7 @@ use Prim.Native.Nat.{_-_}
 use mathlib.Core.Path.{_≡_}
 use native.Mathlib.Omega.{arith}
 use Rattle.text.specs.Text.{ascii}
+use Rattle.report.specs.Report.{lineEnd}
 use Rattle.report.specs.State.{readingLine}
 use borrow.Author.Needs.{needs}
 use Rattle.report.proofs.state.reading_line.Statement.{statement}
@@ -10,44 +11,40 @@ use Rattle.report.proofs.state.reading_line.Tie as tie
 mode-word-requires : tie.Need-mode-word-requires
 mode-word-requires c κs = search needs
 
-slice-aggregate-bytes-line : tie.Need-slice-aggregate-bytes-line
-slice-aggregate-bytes-line c = search needs
+slice-aggregate-reply-line : tie.Need-slice-aggregate-reply-line
+slice-aggregate-reply-line c = search needs
 
-sub-bytes-line : tie.Need-sub-bytes-line
-sub-bytes-line c = search needs
+sub-reply-line : tie.Need-sub-reply-line
+sub-reply-line c = search needs
 
-part-bytes-line-start : tie.Need-part-bytes-line-start
-part-bytes-line-start c = search needs
+part-reply-line-start : tie.Need-part-reply-line-start
+part-reply-line-start c = search needs
 
-part-bytes-line-end : tie.Need-part-bytes-line-end
-part-bytes-line-end c = c .before .before .before .before .mode-word .ensures .within
+part-reply-line-end : tie.Need-part-reply-line-end
+part-reply-line-end c = c .before .before .before .before .mode-word .ensures .within
 
-slice-aggregate-bytes-line-2 : tie.Need-slice-aggregate-bytes-line-2
-slice-aggregate-bytes-line-2 c = search needs
-
-bytes-line-requires : tie.Need-bytes-line-requires
-bytes-line-requires c κs = search needs
+reply-line-requires : tie.Need-reply-line-requires
+reply-line-requires c κs = search needs
 
 same-length : tie.Need-same-length
 same-length c = search needs
 
 returns : tie.Need-returns
-unfolding readingLine ascii
+unfolding readingLine lineEnd ascii
 returns c =
-    let word = c .before .before .before .before .before .before .before .before .before .mode-word in
+    let word = c .before .before .before .before .before .before .before .before .mode-word in
     let whole : word .result .len - 0 ≡ word .result .len = omega arith in
-    rw (whole, word .ensures .text) at (c .before .before .bytes-line .ensures)
+    rw (whole, word .ensures .text) at (c .before .before .reply-line .ensures)
 
 pub reading-line-spec : {M : Type 1} → statement M
 reading-line-spec =
     tie.close
     (tie.spec
     mode-word-requires
-    slice-aggregate-bytes-line
-    sub-bytes-line
-    part-bytes-line-start
-    part-bytes-line-end
-    slice-aggregate-bytes-line-2
-    bytes-line-requires
+    slice-aggregate-reply-line
+    sub-reply-line
+    part-reply-line-start
+    part-reply-line-end
+    reply-line-requires
     same-length
     returns)

@@ -1,3 +1,5 @@
+use Rattle.text.specs.Text.{ascii}
+use Rattle.report.specs.Report.{doneLine}
 use Rattle.transcript.specs.Replies.{callLine}
 use borrow.Author.Needs.{needs}
 use Rattle.transcript.proofs.answers.call_line.Statement.{statement}
@@ -6,8 +8,11 @@ use Rattle.transcript.proofs.answers.call_line.Tie as tie
 enum-told : tie.Need-enum-told
 enum-told c = search needs
 
-done-line-requires : tie.Need-done-line-requires
-done-line-requires c κs = search needs
+slice-aggregate-append : tie.Need-slice-aggregate-append
+slice-aggregate-append c = search needs
+
+append-requires : tie.Need-append-requires
+append-requires c κs = search needs
 
 enum-known-answer : tie.Need-enum-known-answer
 enum-known-answer c = search needs
@@ -22,8 +27,8 @@ same-length : tie.Need-same-length
 same-length c = search needs
 
 returns : tie.Need-returns
-unfolding callLine
-returns c = rw (c .before .before .before .before .enum-told .given .1) (c .before .before .done-line .ensures)
+unfolding callLine doneLine ascii
+returns c = rw (c .before .before .before .before .before .enum-told .given .1) (c .before .before .append .ensures)
 
 same-length-2 : tie.Need-same-length-2
 same-length-2 c = search needs
@@ -37,7 +42,8 @@ call-line-spec =
     tie.close
     (tie.spec
     enum-told
-    done-line-requires
+    slice-aggregate-append
+    append-requires
     enum-known-answer
     number-requires
     refused-line-requires

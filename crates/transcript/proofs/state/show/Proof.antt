@@ -1,3 +1,5 @@
+use Rattle.text.specs.Text.{ascii}
+use Rattle.report.specs.State.{endLine}
 use Rattle.transcript.specs.LinesLaws.{all-one, all-then}
 use Rattle.transcript.specs.State.{stateLines}
 use borrow.Author.Needs.{needs}
@@ -16,22 +18,25 @@ show-nodes-requires c κs = search needs
 show-readings-requires : tie.Need-show-readings-requires
 show-readings-requires c κs = search needs
 
-end-line-requires : tie.Need-end-line-requires
-end-line-requires c κs = search needs
+slice-aggregate-append : tie.Need-slice-aggregate-append
+slice-aggregate-append c = search needs
+
+append-requires : tie.Need-append-requires
+append-requires c κs = search needs
 
 same-length : tie.Need-same-length
 same-length c = search needs
 
 returns : tie.Need-returns
-unfolding stateLines
+unfolding stateLines endLine ascii
 returns c =
     all-then _ _ _ _
     (all-then _ _ _ _
     (all-then _ _ _ _
-    (all-then _ _ _ _ (all-one _ _ _ (c .before .before .before .before .before .before .before .before .before .before .before .before .before .before .before .before .before .before .login-line .ensures)) (c .before .before .before .before .before .before .before .before .before .before .before .before .before .before .show-slots .ensures))
-    (c .before .before .before .before .before .before .before .before .before .before .show-nodes .ensures))
-    (c .before .before .before .before .before .before .show-readings .ensures))
-    (all-one _ _ _ (c .before .before .end-line .ensures))
+    (all-then _ _ _ _ (all-one _ _ _ (c .before .before .before .before .before .before .before .before .before .before .before .before .before .before .before .before .before .before .before .login-line .ensures)) (c .before .before .before .before .before .before .before .before .before .before .before .before .before .before .before .show-slots .ensures))
+    (c .before .before .before .before .before .before .before .before .before .before .before .show-nodes .ensures))
+    (c .before .before .before .before .before .before .before .show-readings .ensures))
+    (all-one _ _ _ (c .before .before .append .ensures))
 
 pub show-spec : {M : Type 1} → statement M
 show-spec =
@@ -41,6 +46,7 @@ show-spec =
     show-slots-requires
     show-nodes-requires
     show-readings-requires
-    end-line-requires
+    slice-aggregate-append
+    append-requires
     same-length
     returns)

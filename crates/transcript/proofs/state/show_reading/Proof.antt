@@ -13,9 +13,6 @@ use Rattle.transcript.proofs.state.show_reading.Tie as tie
 taken-place-requires : tie.Need-taken-place-requires
 taken-place-requires c κs = search needs
 
-mode-of-requires : tie.Need-mode-of-requires
-mode-of-requires c κs = search needs
-
 sub-reading-line : tie.Need-sub-reading-line
 sub-reading-line c = search needs
 
@@ -24,8 +21,8 @@ part-reading-line-start c = search needs
 
 part-reading-line-end : tie.Need-part-reading-line-end
 part-reading-line-end c =
-    let long : length (c .before .before .before .before .before .before .args .reading .bytes) ≡ limit = search needs in
-    omega (arith, c .before .before .before .taken-place .ensures .within, long)
+    let long : length (c .before .before .before .before .before .args .reading .bytes) ≡ limit = search needs in
+    omega (arith, c .before .before .taken-place .ensures .within, long)
 
 reading-line-requires : tie.Need-reading-line-requires
 reading-line-requires c κs = search needs
@@ -36,11 +33,11 @@ same-length c = search needs
 returns : tie.Need-returns
 unfolding readingLines
 returns c =
-    let r = c .before .before .before .before .before .before .before .before .before .before .args .reading in
-    let p = c .before .before .before .before .before .before .before .taken-place in
+    let r = c .before .before .before .before .before .before .before .before .before .args .reading in
+    let p = c .before .before .before .before .before .before .taken-place in
     let state = p .ensures .state (r .bytes) in
     let whole : p .result .count - 0 ≡ p .result .count = omega arith in
-    let line = rw (whole, c .before .before .before .before .before .mode-of .ensures) at (c .before .before .reading-line .ensures) in
+    let line = rw whole at (c .before .before .reading-line .ensures) in
     rw (← state, held-at (r .bytes) (p .result .count) (p .result .mode) (p .ensures .clear), modeOf-at _ (p .result .mode)) (all-one _ _ _ line)
 
 pub show-reading-spec : {M : Type 1} → statement M
@@ -48,7 +45,6 @@ show-reading-spec =
     tie.close
     (tie.spec
     taken-place-requires
-    mode-of-requires
     sub-reading-line
     part-reading-line-start
     part-reading-line-end

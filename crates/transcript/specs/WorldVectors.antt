@@ -1,0 +1,58 @@
+-- Lines of a script played on small worlds: the first of a table buffer's two bytes is lent, or none, and session 0102 of line 2 is open.
+use Prim.Native.Nat.{ℕ}
+use mathlib.Core.Path.{_≡_, refl}
+use mathlib.Core.List.{List, [], _∷_, _++_, map}
+use mathlib.Core.Bool.{true, false}
+use mathlib.Core.Option.{none, some}
+use lib.ListN.{set, replicate}
+use Rattle.frame.specs.Frame as frame
+use Rattle.frame.specs.Reader.{State, plain, emptied}
+use Rattle.frame.specs.Xor as xor
+use Rattle.feeds.specs.System as system
+use Rattle.sessions.specs.Search as search
+use Rattle.sessions.specs.Sessions as sessions
+use Rattle.sessions.specs.declared.Slot.{Slot}
+use Rattle.rules.specs.declared.Hub.{Hub}
+use Rattle.rules.specs.Hub as rules
+use Rattle.script.specs.Script as script
+use Rattle.text.specs.Text.{ascii, digit, decimalIn, decimal, hex4}
+use Rattle.text.specs.Bytes.{hexPairs, bytesWord}
+use Rattle.report.specs.Report.{badLine, doneLine, lineEnd, refusedLine, finishedLine, noneLine, frameLine, packetLine}
+use Rattle.transcript.specs.World.{World, Played, callTold, finishTold, outcomeTold, feedTold, start, enrol, feed, close, finish, bad, play}
+
+abbrev opened : Slot
+opened = record { used = true; number = 0x0102; line = 2; nodes = replicate sessions.targetCount false }
+
+abbrev hubWith : Slot → Hub
+hubWith s = record { password = replicate 32 0; logins = false ∷ false ∷ true ∷ false ∷ []; slots = s ∷ [] }
+
+-- line 0 holds two bytes, line 3 one
+abbrev world : Hub → List ℕ → State → World
+world h t s = record { hub = h; table = t; states = s ∷ emptied ∷ emptied ∷ plain (9 ∷ []) ∷ [] }
+
+abbrev before : World
+before = world (hubWith opened) (7 ∷ 8 ∷ []) (plain (0xC0 ∷ 0xDB ∷ []))
+
+abbrev answered : List ℕ → World → Played
+answered text w = record { lines = text ∷ []; world = w }
+
+-- refused calls and a bad line change nothing: the whole buffer stays, whatever part of it was lent
+refused : map (play before) (some (script.start (replicate 32 5) 1) ∷ some (script.enrol 0 1 0) ∷ some (script.feed 0 512 (0xC0 ∷ []) 1) ∷ some (script.close 4) ∷ some (script.finish 0x0102 511) ∷ some (script.finish 0x0103 512) ∷ none ∷ [])
+    ≡ map (λ (text : List ℕ). answered text before) (ascii "refused 7\n" ∷ ascii "refused 7\n" ∷ ascii "refused 7\n" ∷ ascii "refused 8\n" ∷ ascii "refused 9\n" ∷ ascii "refused 13\n" ∷ ascii "bad line\n" ∷ [])
+unfolding play start enrol feed close finish bad callTold finishTold feedTold system.feed system.returned system.stateFor system.call system.decided sessions.finish search.any search.first ascii digit decimalIn decimal badLine lineEnd refusedLine
+refused = refl
+
+-- closing line 0 empties its reading and no other; finishing the session closes it and tells its line
+closed : play before (some (script.close 0)) ≡ answered (ascii "done\n") (world (hubWith opened) (7 ∷ 8 ∷ []) emptied)
+unfolding play close callTold doneLine ascii
+closed = refl
+
+finished : play before (some (script.finish 0x0102 512)) ≡ answered (ascii "finished 2 reply C000050304010201C0\n") (world (hubWith sessions.closedSlot) (7 ∷ 8 ∷ []) (plain (0xC0 ∷ 0xDB ∷ [])))
+unfolding play finish finishTold rules.notice sessions.finish search.any search.first frame.wire frame.escape frame.framed frame.body xor.xorAll xor._⊕_ ascii digit decimalIn decimal hexPairs bytesWord lineEnd finishedLine
+finished = refl
+
+-- what a feed tells: no outcome, a frame with the number of its data bytes, a packet refusal
+told : map (λ (a : system.Answer). feedTold a (0x0F ∷ [])) (system.told 7 none 1 ∷ system.told 7 (some (frame.frame 0x0206 (1 ∷ 2 ∷ []))) 1 ∷ system.told 7 (some (frame.refused 6)) 1 ∷ [])
+    ≡ ascii "used 7 none reply 0F\n" ∷ ascii "used 7 frame 0206 data 2 reply 0F\n" ∷ ascii "used 7 packet 6 reply 0F\n" ∷ []
+unfolding feedTold outcomeTold ascii digit decimalIn decimal hexPairs bytesWord lineEnd noneLine frameLine packetLine
+told = refl
