@@ -1,9 +1,9 @@
--- Document 01's replies and limits that are not marked P, the order of judging an outcome, and what each request, close and finish leaves, computed.
+-- Document 01's replies and limits that are not marked P, the order of judging an outcome, and what each request and host call leaves, computed.
 use Prim.Native.Nat.{ℕ, _+_, _-_, _*_}
 use mathlib.Core.Path.{_≡_, refl}
 use mathlib.Core.List.{List, [], _∷_, _++_, map}
 use mathlib.Core.Bool.{Bool, true, false}
-use mathlib.Core.Option.{none, some}
+use mathlib.Core.Option.{Option, none, some}
 use lib.ListN.{length, set, replicate}
 use Rattle.frame.specs.Frame.{Outcome, frame, refused, wire, escape, framed, body}
 use Rattle.frame.specs.Reader.{plain, emptied}
@@ -19,7 +19,7 @@ use Rattle.sessions.specs.declared.Slot.{Slot}
 use Rattle.rules.specs.declared.Hub.{Hub}
 use Rattle.rules.specs.Hub as rules
 use Rattle.memory.specs.Octets.{same}
-use Rattle.rules.specs.Hub.{Reply, firstHub, serve, request, enter, close, finish}
+use Rattle.rules.specs.Hub.{Reply, firstHub, serve, request, enter, start, enrol, close, finish}
 
 -- ---- hubs and tables
 
@@ -47,6 +47,10 @@ opened s = hubWith (set (loggedIn .slots) 0 s)
 
 abbrev moving : Hub
 moving = opened (sessionWith 3)
+
+-- session 0103 of line 1 with node 3
+abbrev other : Slot
+other = record { used = true; number = 0x0103; line = 1; nodes = set (replicate targetCount false) 3 true }
 
 -- the nodes below n are in use: each byte of their records is 1
 abbrev windows : ℕ → List ℕ
@@ -95,6 +99,23 @@ errors =
     ∷ answers loggedIn (frame 0x0008 []) (error 1)
     ∷ []
 
+-- the data length of each request, by one byte fewer and one more
+abbrev misfit : ℕ → ℕ → Row
+misfit c n = answers loggedIn (frame c (replicate n 0)) (error 2)
+
+abbrev misfits : List Row
+misfits =
+    misfit 0x3000 31 ∷ misfit 0x3000 33
+    ∷ misfit 0x3002 63 ∷ misfit 0x3002 65
+    ∷ misfit 0x0200 0 ∷ misfit 0x0200 2
+    ∷ misfit 0x0206 1 ∷ misfit 0x0206 3
+    ∷ misfit 0x0208 64 ∷ misfit 0x0208 66
+    ∷ misfit 0x020D 3 ∷ misfit 0x020D 5
+    ∷ misfit 0x0106 25 ∷ misfit 0x0106 27
+    ∷ misfit 0x0108 1
+    ∷ misfit 0x0320 30 ∷ misfit 0x0320 32
+    ∷ []
+
 -- the last 32 bytes become the password, or nothing changes; equal old and new is accepted
 abbrev changes : List Row
 changes =
@@ -110,7 +131,8 @@ information =
     ∷ answers loggedIn (frame 0x0200 (4 ∷ [])) (wire 0x0201 (2 ∷ 4 ∷ []))
     ∷ []
 
--- the node set commands confirm with status 0 and node 3, and store these bytes at this place of its record
+-- the node set commands confirm with status 0 and node 3, and store these bytes at this place of its record; status 1 for a variation above 4,
+-- 2 for a node that is not in use
 abbrev stores : Outcome → ℕ → List ℕ → List ℕ → Row
 stores o at vs reply = row loggedIn (windows 4) o loggedIn (windows 3 ++ replicate at 1 ++ vs ++ replicate (recordSize - (at + length vs)) 1) reply
 
@@ -119,6 +141,10 @@ confirms =
     stores (frame 0x0206 (3 ∷ 2 ∷ [])) 70 (2 ∷ []) (0xC0 ∷ 0x00 ∷ 0x05 ∷ 0x02 ∷ 0x07 ∷ 0x00 ∷ 0x03 ∷ 0x03 ∷ 0xC0 ∷ [])
     ∷ stores (frame 0x0208 (3 ∷ replicate 64 9)) 3 (replicate 64 9) (0xC0 ∷ 0x00 ∷ 0x05 ∷ 0x02 ∷ 0x09 ∷ 0x00 ∷ 0x03 ∷ 0x0D ∷ 0xC0 ∷ [])
     ∷ stores (frame 0x020D (3 ∷ 0 ∷ 5 ∷ 2 ∷ [])) 67 (0 ∷ 5 ∷ 2 ∷ []) (0xC0 ∷ 0x00 ∷ 0x05 ∷ 0x02 ∷ 0x0E ∷ 0x00 ∷ 0x03 ∷ 0x0A ∷ 0xC0 ∷ [])
+    ∷ answers loggedIn (frame 0x0206 (3 ∷ 5 ∷ [])) (wire 0x0207 (1 ∷ 3 ∷ []))
+    ∷ answers loggedIn (frame 0x0206 (4 ∷ 5 ∷ [])) (wire 0x0207 (2 ∷ 4 ∷ []))
+    ∷ answers loggedIn (frame 0x0208 (4 ∷ replicate 64 9)) (wire 0x0209 (2 ∷ 4 ∷ []))
+    ∷ answers loggedIn (frame 0x020D (4 ∷ 0 ∷ 5 ∷ 2 ∷ [])) (wire 0x020E (2 ∷ 4 ∷ []))
     ∷ []
 
 -- a mode send of session 0102 with this count and these indices, and its confirm
@@ -128,7 +154,7 @@ modeSend count ns = frame 0x0320 ((0x01 ∷ 0x02 ∷ 1 ∷ 3 ∷ 0 ∷ 0 ∷ cou
 abbrev sent : ℕ → List ℕ
 sent status = wire 0x0321 (0x01 ∷ 0x02 ∷ status ∷ [])
 
--- node 199 is accepted and node 200 is not; counts 1 and 20 are, 0 and 21 are not
+-- node 199 is accepted and node 200 is not; counts 1 and 20 are, 0 and 21 are not; then an open number, eight slots taken, a node that is held
 abbrev modeSends : List Row
 modeSends =
     leaves loggedIn 4 (modeSend 1 (3 ∷ [])) moving (0xC0 ∷ 0x00 ∷ 0x06 ∷ 0x03 ∷ 0x21 ∷ 0x01 ∷ 0x02 ∷ 0x00 ∷ 0x27 ∷ 0xC0 ∷ [])
@@ -137,6 +163,9 @@ modeSends =
     ∷ leaves loggedIn 20 (modeSend 20 (search.below 20)) (opened (session (replicate 20 true ++ replicate (targetCount - 20) false))) (sent 0)
     ∷ leaves loggedIn 20 (modeSend 21 (search.below 20)) loggedIn (sent 5)
     ∷ answers loggedIn (modeSend 0 (3 ∷ [])) (sent 5)
+    ∷ answers moving (modeSend 1 (3 ∷ [])) (sent 3)
+    ∷ answers (hubWith (replicate 8 other)) (modeSend 1 (3 ∷ [])) (sent 4)
+    ∷ answers (opened other) (modeSend 1 (3 ∷ [])) (sent 1)
     ∷ []
 
 -- removing node 3 closes its session and no other; virgin state zeroes the table and closes the session, login and password stay
@@ -148,18 +177,42 @@ removals =
     ∷ []
 
 abbrev rows : List Row
-rows = passwords ++ errors ++ changes ++ information ++ confirms ++ modeSends ++ removals
+rows = passwords ++ errors ++ misfits ++ changes ++ information ++ confirms ++ modeSends ++ removals
 
 rows-hold : map tried rows ≡ rows
 unfolding serve request enter same rules.change rules.getNode rules.virginState rules.removeNodes rules.modeSend sessions.modeSend sessions.isLegal sessions.targetsLegal sessions.marked sessions.holdsRemoved search.any search.first search.below table.setVariation table.setField table.inUse table.bit table.information table.removeBelow table.removeOne lookup.verdict lookup.verdictOf lookup.find directory wire escape framed body xor.xorAll xor._⊕_
 rows-hold = refl
 
+-- data bytes that are missing count as 0, and a line that is missing is not logged in; the directory and feed let neither come
+missing : request loggedIn (windows 1) 2 0x0206 [] ∷ request loggedIn (windows 1) 2 0x0320 [] ∷ []
+    ≡ record { hub = loggedIn; table = replicate 70 1 ++ 0 ∷ 1 ∷ []; reply = wire 0x0207 (0 ∷ 0 ∷ []) }
+    ∷ record { hub = loggedIn; table = windows 1; reply = wire 0x0321 (0 ∷ 0 ∷ 5 ∷ []) } ∷ []
+unfolding request rules.modeSend sessions.modeSend sessions.isLegal table.setVariation table.setField table.inUse
+missing = refl
+
+strangers : map (rules.isLoggedIn loggedIn) (0 ∷ 1 ∷ 2 ∷ 3 ∷ 4 ∷ []) ≡ false ∷ false ∷ true ∷ false ∷ false ∷ []
+strangers = refl
+
 -- ---- host calls
 
--- closing line 2 takes its login, closes its session and empties its reading state; line 1 has neither; there is no line 4
-closed : close moving (plain (0 ∷ [])) 2 ∷ close moving (plain (0 ∷ [])) 1 ∷ close moving (plain (0 ∷ [])) 4 ∷ []
+-- start judges the table before the password; a refused one leaves hub and table
+started : start moving (replicate 14399 1) (replicate 31 8) ∷ start moving (replicate 14400 1) (replicate 31 8) ∷ start moving (replicate 14400 1) (replicate 33 8)
+    ∷ start moving (replicate 14400 1) (replicate 32 8) ∷ []
+    ≡ record { refusal = some 7; hub = moving; table = replicate 14399 1 } ∷ record { refusal = some 14; hub = moving; table = replicate 14400 1 }
+    ∷ record { refusal = some 14; hub = moving; table = replicate 14400 1 } ∷ record { refusal = none; hub = passwordChanged firstHub; table = replicate 14400 0 } ∷ []
+started = refl
+
+-- enrol judges the table, then the node, then its use; the type goes high byte first, other fields are zero
+enrolled : enrol (replicate 14401 1) 200 0x0102 ∷ enrol (replicate 14400 1) 200 0x0102 ∷ enrol (replicate 14400 1) 199 0x0102 ∷ enrol (replicate 14400 0) 199 0x0102 ∷ []
+    ≡ record { refusal = some 7; table = replicate 14401 1 } ∷ record { refusal = some 11; table = replicate 14400 1 } ∷ record { refusal = some 12; table = replicate 14400 1 }
+    ∷ record { refusal = none; table = replicate (199 * recordSize) 0 ++ (1 ∷ 0x01 ∷ 0x02 ∷ []) ++ replicate 69 0 } ∷ []
+unfolding table.inUse table.enrolledRecord
+enrolled = refl
+
+-- closing line 2 takes its login, closes its session and empties its reading state; lines 1 and 3 have neither; there is no line 4
+closed : close moving (plain (0 ∷ [])) 2 ∷ close moving (plain (0 ∷ [])) 1 ∷ close moving (plain (0 ∷ [])) 3 ∷ close moving (plain (0 ∷ [])) 4 ∷ []
     ≡ record { refusal = none; hub = firstHub; state = emptied } ∷ record { refusal = none; hub = moving; state = emptied }
-    ∷ record { refusal = some 8; hub = moving; state = plain (0 ∷ []) } ∷ []
+    ∷ record { refusal = none; hub = moving; state = emptied } ∷ record { refusal = some 8; hub = moving; state = plain (0 ∷ []) } ∷ []
 closed = refl
 
 -- room is judged before the number; the session's number goes high byte first
@@ -168,3 +221,16 @@ finished : finish moving 0x0103 511 ∷ finish moving 0x0103 512 ∷ finish movi
     ∷ record { answer = rules.finishedOn 2 9; hub = loggedIn; reply = 0xC0 ∷ 0x00 ∷ 0x05 ∷ 0x03 ∷ 0x04 ∷ 0x01 ∷ 0x02 ∷ 0x01 ∷ 0xC0 ∷ [] } ∷ []
 unfolding rules.notice sessions.finish search.any search.first wire escape framed body xor.xorAll xor._⊕_
 finished = refl
+
+noticed : rules.notice 0xFF00 ≡ 0xC0 ∷ 0x00 ∷ 0x05 ∷ 0x03 ∷ 0x04 ∷ 0xFF ∷ 0x00 ∷ 0xFD ∷ 0xC0 ∷ []
+unfolding rules.notice wire escape framed body xor.xorAll xor._⊕_
+noticed = refl
+
+-- feed judges the table, then the line, then the room
+refusal : List ℕ → ℕ → ℕ → Option ℕ
+refusal t l room = rules.hub .refusal moving t emptied l [] room
+
+fed : refusal (replicate 14399 1) 4 511 ∷ refusal (replicate 14400 1) 4 511 ∷ refusal (replicate 14400 1) 3 511 ∷ refusal (replicate 14400 1) 3 512 ∷ []
+    ≡ some 7 ∷ some 8 ∷ some 9 ∷ none ∷ []
+unfolding refusal
+fed = refl
