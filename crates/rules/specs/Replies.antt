@@ -19,20 +19,23 @@ use Rattle.sessions.specs.declared.Slot.{Slot}
 use Rattle.rules.specs.declared.Hub.{Hub}
 use Rattle.rules.specs.Hub as rules
 use Rattle.memory.specs.Octets.{same}
-use Rattle.rules.specs.Hub.{Reply, firstHub, serve, request, enter, start, enrol, close, finish}
+use Rattle.rules.specs.Hub.{Reply, firstHub, serve, request, enter, start, enrol, Closed, close, finish}
 
 -- ---- hubs and tables
 
--- line 2 is logged in, with these sessions
+-- lines 0 and 2 are logged in, with these sessions
 abbrev hubWith : List Slot → Hub
-hubWith ss = record { password = replicate 32 0; logins = false ∷ false ∷ true ∷ false ∷ []; slots = ss }
+hubWith ss = record { password = replicate 32 8; logins = true ∷ false ∷ true ∷ false ∷ []; slots = ss }
 
 abbrev loggedIn : Hub
 loggedIn = hubWith (replicate slotCount closedSlot)
 
--- a hub with another password
+-- a hub with another password, and one of which line 2 is not logged in
 abbrev passwordChanged : Hub → Hub
-passwordChanged h = record { password = replicate 32 8; logins = h .logins; slots = h .slots }
+passwordChanged h = record { password = replicate 32 9; logins = h .logins; slots = h .slots }
+
+abbrev loggedOut : Hub → Hub
+loggedOut h = record { password = h .password; logins = true ∷ false ∷ false ∷ false ∷ []; slots = h .slots }
 
 -- session 0102 of line 2 with these nodes, and with node n alone
 abbrev session : List Bool → Slot
@@ -48,9 +51,12 @@ opened s = hubWith (set (loggedIn .slots) 0 s)
 abbrev moving : Hub
 moving = opened (sessionWith 3)
 
--- session 0103 of line 1 with node 3
+-- session 0103 of line 1 with node 3; it is open in slot 1
 abbrev other : Slot
 other = record { used = true; number = 0x0103; line = 1; nodes = set (replicate targetCount false) 3 true }
+
+abbrev both : Hub → Hub
+both h = hubWith (set (h .slots) 1 other)
 
 -- the nodes below n are in use: each byte of their records is 1
 abbrev windows : ℕ → List ℕ
@@ -78,11 +84,14 @@ leaves h n o h′ reply = row h (windows n) o h′ (windows n) reply
 abbrev answers : Hub → Outcome → List ℕ → Row
 answers h o reply = leaves h 4 o h reply
 
--- the right password, and one whose last byte is wrong
+-- the right password before any start and later, and one whose last byte is wrong
 abbrev passwords : List Row
 passwords =
-    leaves firstHub 4 (frame 0x3000 (replicate 32 0)) loggedIn (0xC0 ∷ 0x00 ∷ 0x04 ∷ 0x30 ∷ 0x01 ∷ 0x00 ∷ 0x35 ∷ 0xC0 ∷ [])
-    ∷ answers loggedIn (frame 0x3000 (replicate 31 0 ++ 1 ∷ [])) (wire 0x3001 (1 ∷ []))
+    leaves firstHub 4 (frame 0x3000 (replicate 32 0)) (record { password = replicate 32 0; logins = false ∷ false ∷ true ∷ false ∷ []; slots = replicate 8 closedSlot })
+    (0xC0 ∷ 0x00 ∷ 0x04 ∷ 0x30 ∷ 0x01 ∷ 0x00 ∷ 0x35 ∷ 0xC0 ∷ [])
+    ∷ leaves (loggedOut moving) 4 (frame 0x3000 (replicate 32 8)) moving (wire 0x3001 (0 ∷ []))
+    ∷ answers (loggedOut moving) (frame 0x3000 (replicate 31 8 ++ 1 ∷ [])) (wire 0x3001 (1 ∷ []))
+    ∷ answers moving (frame 0x3000 (replicate 31 8 ++ 1 ∷ [])) (wire 0x3001 (1 ∷ []))
     ∷ []
 
 -- the error frame
@@ -92,16 +101,16 @@ error e = wire 0x0000 (e ∷ [])
 -- the order of judging: a refused packet, an unknown command, a wrong length, no login, a command that is not served
 abbrev errors : List Row
 errors =
-    answers firstHub (refused 6) (error 2)
-    ∷ answers firstHub (frame 0x020A []) (error 1)
-    ∷ answers firstHub (frame 0x0200 []) (error 2)
-    ∷ answers firstHub (frame 0x0200 (3 ∷ [])) (error 12)
-    ∷ answers loggedIn (frame 0x0008 []) (error 1)
+    answers (loggedOut moving) (refused 6) (error 2)
+    ∷ answers (loggedOut moving) (frame 0x020A []) (error 1)
+    ∷ answers (loggedOut moving) (frame 0x0200 []) (error 2)
+    ∷ answers (loggedOut moving) (frame 0x0200 (3 ∷ [])) (error 12)
+    ∷ answers moving (frame 0x0008 []) (error 1)
     ∷ []
 
 -- the data length of each request, by one byte fewer and one more
 abbrev misfit : ℕ → ℕ → Row
-misfit c n = answers loggedIn (frame c (replicate n 0)) (error 2)
+misfit c n = answers moving (frame c (replicate n 0)) (error 2)
 
 abbrev misfits : List Row
 misfits =
@@ -119,32 +128,32 @@ misfits =
 -- the last 32 bytes become the password, or nothing changes; equal old and new is accepted
 abbrev changes : List Row
 changes =
-    leaves loggedIn 4 (frame 0x3002 (replicate 32 0 ++ replicate 32 8)) (passwordChanged loggedIn) (wire 0x3003 (0 ∷ []))
-    ∷ answers loggedIn (frame 0x3002 (replicate 31 0 ++ 8 ∷ replicate 32 0)) (wire 0x3003 (1 ∷ []))
-    ∷ answers loggedIn (frame 0x3002 (replicate 64 0)) (wire 0x3003 (0 ∷ []))
+    leaves moving 4 (frame 0x3002 (replicate 32 8 ++ replicate 32 9)) (passwordChanged moving) (wire 0x3003 (0 ∷ []))
+    ∷ answers moving (frame 0x3002 (replicate 31 8 ++ 9 ∷ replicate 32 8)) (wire 0x3003 (1 ∷ []))
+    ∷ answers moving (frame 0x3002 (replicate 64 8)) (wire 0x3003 (0 ∷ []))
     ∷ []
 
 -- 0210 follows 0201 where the node is in use
 abbrev information : List Row
 information =
-    answers loggedIn (frame 0x0200 (3 ∷ [])) (wire 0x0201 (0 ∷ 3 ∷ []) ++ wire 0x0210 ((3 ∷ 1 ∷ 1 ∷ 1 ∷ []) ++ replicate 64 1 ++ (0 ∷ 1 ∷ 1 ∷ 0 ∷ 0 ∷ 1 ∷ []) ++ replicate 50 0))
-    ∷ answers loggedIn (frame 0x0200 (4 ∷ [])) (wire 0x0201 (2 ∷ 4 ∷ []))
+    answers moving (frame 0x0200 (3 ∷ [])) (wire 0x0201 (0 ∷ 3 ∷ []) ++ wire 0x0210 ((3 ∷ 1 ∷ 1 ∷ 1 ∷ []) ++ replicate 64 1 ++ (0 ∷ 1 ∷ 1 ∷ 0 ∷ 0 ∷ 1 ∷ []) ++ replicate 50 0))
+    ∷ answers moving (frame 0x0200 (4 ∷ [])) (wire 0x0201 (2 ∷ 4 ∷ []))
     ∷ []
 
 -- the node set commands confirm with status 0 and node 3, and store these bytes at this place of its record; status 1 for a variation above 4,
 -- 2 for a node that is not in use
 abbrev stores : Outcome → ℕ → List ℕ → List ℕ → Row
-stores o at vs reply = row loggedIn (windows 4) o loggedIn (windows 3 ++ replicate at 1 ++ vs ++ replicate (recordSize - (at + length vs)) 1) reply
+stores o at vs reply = row moving (windows 4) o moving (windows 3 ++ replicate at 1 ++ vs ++ replicate (recordSize - (at + length vs)) 1) reply
 
 abbrev confirms : List Row
 confirms =
     stores (frame 0x0206 (3 ∷ 2 ∷ [])) 70 (2 ∷ []) (0xC0 ∷ 0x00 ∷ 0x05 ∷ 0x02 ∷ 0x07 ∷ 0x00 ∷ 0x03 ∷ 0x03 ∷ 0xC0 ∷ [])
     ∷ stores (frame 0x0208 (3 ∷ replicate 64 9)) 3 (replicate 64 9) (0xC0 ∷ 0x00 ∷ 0x05 ∷ 0x02 ∷ 0x09 ∷ 0x00 ∷ 0x03 ∷ 0x0D ∷ 0xC0 ∷ [])
     ∷ stores (frame 0x020D (3 ∷ 0 ∷ 5 ∷ 2 ∷ [])) 67 (0 ∷ 5 ∷ 2 ∷ []) (0xC0 ∷ 0x00 ∷ 0x05 ∷ 0x02 ∷ 0x0E ∷ 0x00 ∷ 0x03 ∷ 0x0A ∷ 0xC0 ∷ [])
-    ∷ answers loggedIn (frame 0x0206 (3 ∷ 5 ∷ [])) (wire 0x0207 (1 ∷ 3 ∷ []))
-    ∷ answers loggedIn (frame 0x0206 (4 ∷ 5 ∷ [])) (wire 0x0207 (2 ∷ 4 ∷ []))
-    ∷ answers loggedIn (frame 0x0208 (4 ∷ replicate 64 9)) (wire 0x0209 (2 ∷ 4 ∷ []))
-    ∷ answers loggedIn (frame 0x020D (4 ∷ 0 ∷ 5 ∷ 2 ∷ [])) (wire 0x020E (2 ∷ 4 ∷ []))
+    ∷ answers moving (frame 0x0206 (3 ∷ 5 ∷ [])) (wire 0x0207 (1 ∷ 3 ∷ []))
+    ∷ answers moving (frame 0x0206 (4 ∷ 5 ∷ [])) (wire 0x0207 (2 ∷ 4 ∷ []))
+    ∷ answers moving (frame 0x0208 (4 ∷ replicate 64 9)) (wire 0x0209 (2 ∷ 4 ∷ []))
+    ∷ answers moving (frame 0x020D (4 ∷ 0 ∷ 5 ∷ 2 ∷ [])) (wire 0x020E (2 ∷ 4 ∷ []))
     ∷ []
 
 -- a mode send of session 0102 with this count and these indices, and its confirm
@@ -173,7 +182,7 @@ abbrev removals : List Row
 removals =
     row (hubWith (set (moving .slots) 1 (sessionWith 0))) (windows 4) (frame 0x0106 (8 ∷ replicate 25 0))
     (hubWith (set (loggedIn .slots) 1 (sessionWith 0))) (windows 3 ++ replicate recordSize 0) (wire 0x0107 (0 ∷ []))
-    ∷ row (passwordChanged moving) (windows 4) (frame 0x0108 []) (passwordChanged loggedIn) (replicate (4 * recordSize) 0) (wire 0x0109 [])
+    ∷ row (both moving) (windows 4) (frame 0x0108 []) loggedIn (replicate (4 * recordSize) 0) (wire 0x0109 [])
     ∷ []
 
 abbrev rows : List Row
@@ -190,16 +199,17 @@ missing : request loggedIn (windows 1) 2 0x0206 [] ∷ request loggedIn (windows
 unfolding request rules.modeSend sessions.modeSend sessions.isLegal table.setVariation table.setField table.inUse
 missing = refl
 
-strangers : map (rules.isLoggedIn loggedIn) (0 ∷ 1 ∷ 2 ∷ 3 ∷ 4 ∷ []) ≡ false ∷ false ∷ true ∷ false ∷ false ∷ []
+strangers : map (rules.isLoggedIn loggedIn) (0 ∷ 1 ∷ 2 ∷ 3 ∷ 4 ∷ []) ≡ true ∷ false ∷ true ∷ false ∷ false ∷ []
 strangers = refl
 
 -- ---- host calls
 
 -- start judges the table before the password; a refused one leaves hub and table
-started : start moving (replicate 14399 1) (replicate 31 8) ∷ start moving (replicate 14400 1) (replicate 31 8) ∷ start moving (replicate 14400 1) (replicate 33 8)
-    ∷ start moving (replicate 14400 1) (replicate 32 8) ∷ []
+started : start moving (replicate 14399 1) (replicate 31 5) ∷ start moving (replicate 14400 1) (replicate 31 5) ∷ start moving (replicate 14400 1) (replicate 33 5)
+    ∷ start moving (replicate 14400 1) (replicate 32 5) ∷ []
     ≡ record { refusal = some 7; hub = moving; table = replicate 14399 1 } ∷ record { refusal = some 14; hub = moving; table = replicate 14400 1 }
-    ∷ record { refusal = some 14; hub = moving; table = replicate 14400 1 } ∷ record { refusal = none; hub = passwordChanged firstHub; table = replicate 14400 0 } ∷ []
+    ∷ record { refusal = some 14; hub = moving; table = replicate 14400 1 }
+    ∷ record { refusal = none; hub = record { password = replicate 32 5; logins = replicate 4 false; slots = replicate 8 closedSlot }; table = replicate 14400 0 } ∷ []
 started = refl
 
 -- enrol judges the table, then the node, then its use; the type goes high byte first, other fields are zero
@@ -209,16 +219,21 @@ enrolled : enrol (replicate 14401 1) 200 0x0102 ∷ enrol (replicate 14400 1) 20
 unfolding table.inUse table.enrolledRecord
 enrolled = refl
 
--- closing line 2 takes its login, closes its session and empties its reading state; lines 1 and 3 have neither; there is no line 4
-closed : close moving (plain (0 ∷ [])) 2 ∷ close moving (plain (0 ∷ [])) 1 ∷ close moving (plain (0 ∷ [])) 3 ∷ close moving (plain (0 ∷ [])) 4 ∷ []
-    ≡ record { refusal = none; hub = firstHub; state = emptied } ∷ record { refusal = none; hub = moving; state = emptied }
-    ∷ record { refusal = none; hub = moving; state = emptied } ∷ record { refusal = some 8; hub = moving; state = plain (0 ∷ []) } ∷ []
+-- closing a line takes its login, closes its sessions and no other, and empties its reading state; line 3 has neither; there is no line 4
+closing : ℕ → Closed
+closing l = close (both moving) (plain (0 ∷ [])) l
+
+closed : closing 2 ∷ closing 1 ∷ closing 3 ∷ closing 4 ∷ []
+    ≡ record { refusal = none; hub = loggedOut (both loggedIn); state = emptied } ∷ record { refusal = none; hub = moving; state = emptied }
+    ∷ record { refusal = none; hub = both moving; state = emptied } ∷ record { refusal = some 8; hub = both moving; state = plain (0 ∷ []) } ∷ []
+unfolding closing
 closed = refl
 
--- room is judged before the number; the session's number goes high byte first
-finished : finish moving 0x0103 511 ∷ finish moving 0x0103 512 ∷ finish moving 0x0102 512 ∷ []
+-- room is judged before the number; the session's line is told, and its number goes high byte first
+finished : finish moving 0x0103 511 ∷ finish moving 0x0103 512 ∷ finish (both moving) 0x0102 512 ∷ finish (both moving) 0x0103 512 ∷ []
     ≡ record { answer = rules.refusedFinish 9; hub = moving; reply = [] } ∷ record { answer = rules.refusedFinish 13; hub = moving; reply = [] }
-    ∷ record { answer = rules.finishedOn 2 9; hub = loggedIn; reply = 0xC0 ∷ 0x00 ∷ 0x05 ∷ 0x03 ∷ 0x04 ∷ 0x01 ∷ 0x02 ∷ 0x01 ∷ 0xC0 ∷ [] } ∷ []
+    ∷ record { answer = rules.finishedOn 2 9; hub = both loggedIn; reply = 0xC0 ∷ 0x00 ∷ 0x05 ∷ 0x03 ∷ 0x04 ∷ 0x01 ∷ 0x02 ∷ 0x01 ∷ 0xC0 ∷ [] }
+    ∷ record { answer = rules.finishedOn 1 9; hub = moving; reply = wire 0x0304 (0x01 ∷ 0x03 ∷ []) } ∷ []
 unfolding rules.notice sessions.finish search.any search.first wire escape framed body xor.xorAll xor._⊕_
 finished = refl
 
