@@ -213,9 +213,9 @@ started : start moving (replicate 14399 1) (replicate 31 5) ∷ start moving (re
 started = refl
 
 -- enrol judges the table, then the node, then its use; the type goes high byte first, other fields are zero
-enrolled : enrol (replicate 14401 1) 200 0x0102 ∷ enrol (replicate 14400 1) 200 0x0102 ∷ enrol (replicate 14400 1) 199 0x0102 ∷ enrol (replicate 14400 0) 199 0x0102 ∷ []
-    ≡ record { refusal = some 7; table = replicate 14401 1 } ∷ record { refusal = some 11; table = replicate 14400 1 } ∷ record { refusal = some 12; table = replicate 14400 1 }
-    ∷ record { refusal = none; table = replicate (199 * recordSize) 0 ++ (1 ∷ 0x01 ∷ 0x02 ∷ []) ++ replicate 69 0 } ∷ []
+enrolled : enrol [] 200 0x0102 ∷ enrol (replicate 14400 1) 200 0x0102 ∷ enrol (replicate 14400 1) 199 0x0102 ∷ enrol (replicate 14400 0) 0 0x0102 ∷ []
+    ≡ record { refusal = some 7; table = [] } ∷ record { refusal = some 11; table = replicate 14400 1 } ∷ record { refusal = some 12; table = replicate 14400 1 }
+    ∷ record { refusal = none; table = (1 ∷ 0x01 ∷ 0x02 ∷ []) ++ replicate 14397 0 } ∷ []
 unfolding table.inUse table.enrolledRecord
 enrolled = refl
 
