@@ -51,9 +51,9 @@ opened s = hubWith (set (loggedIn .slots) 0 s)
 abbrev moving : Hub
 moving = opened (sessionWith 3)
 
--- session 0103 of line 1 with node 3; it is open in slot 1
+-- session 0103 of line 1 with node 2; it is open in slot 1
 abbrev other : Slot
-other = record { used = true; number = 0x0103; line = 1; nodes = set (replicate targetCount false) 3 true }
+other = record { used = true; number = 0x0103; line = 1; nodes = set (replicate targetCount false) 2 true }
 
 abbrev both : Hub → Hub
 both h = hubWith (set (h .slots) 1 other)
@@ -108,7 +108,7 @@ errors =
     ∷ answers moving (frame 0x0008 []) (error 1)
     ∷ []
 
--- the data length of each request, by one byte fewer and one more
+-- each request with a byte fewer and a byte more than its data length
 abbrev misfit : ℕ → ℕ → Row
 misfit c n = answers moving (frame c (replicate n 0)) (error 2)
 
@@ -173,11 +173,11 @@ modeSends =
     ∷ leaves loggedIn 20 (modeSend 21 (search.below 20)) loggedIn (sent 5)
     ∷ answers loggedIn (modeSend 0 (3 ∷ [])) (sent 5)
     ∷ answers moving (modeSend 1 (3 ∷ [])) (sent 3)
-    ∷ answers (hubWith (replicate 8 other)) (modeSend 1 (3 ∷ [])) (sent 4)
-    ∷ answers (opened other) (modeSend 1 (3 ∷ [])) (sent 1)
+    ∷ answers (hubWith (replicate 8 other)) (modeSend 1 (2 ∷ [])) (sent 4)
+    ∷ answers (opened other) (modeSend 1 (2 ∷ [])) (sent 1)
     ∷ []
 
--- removing node 3 closes its session and no other; virgin state zeroes the table and closes the session, login and password stay
+-- removing node 3 closes its session and no other; virgin state zeroes the table and closes all sessions, logins and password stay
 abbrev removals : List Row
 removals =
     row (hubWith (set (moving .slots) 1 (sessionWith 0))) (windows 4) (frame 0x0106 (8 ∷ replicate 25 0))
