@@ -1,5 +1,5 @@
--- Demand 2, over the definitions: an outcome on a line that is not logged in leaves table, password and sessions, and logs it in only by
--- the right password.
+-- Demand 2, over the definitions: an outcome on a line that is not logged in leaves table, password and sessions; so do whole lists of calls
+-- without the host and without a line that is logged in.
 use Prim.Native.Nat.{ℕ}
 use mathlib.Core.Path.{_≡_, refl, _∙_}
 use mathlib.Core.List.{List, [], _∷_}

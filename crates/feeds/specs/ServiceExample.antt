@@ -17,7 +17,7 @@ use Rattle.feeds.specs.System.{Answer, refused, told, settled, serveIf, 
 use Rattle.feeds.specs.Marks.{countOf, outcomeOf, counted, usedOn, marksFrom}
 use Rattle.feeds.specs.Sent.{sent}
 use Rattle.feeds.specs.Service.{Lent, Got, Memory, entryOf, Run, stop, next, Feeds, marksIn}
-use Rattle.feeds.specs.Demand3.{OneDamaged, Harmless, harmless}
+use Rattle.feeds.specs.Demand3.{Line, OneDamaged, Harmless, harmless}
 use Rattle.feeds.specs.Example.{serve, refusal, Counting, one, example-damage}
 
 -- A record that claims more than 255 bytes: it is taken as one between packets.
@@ -89,6 +89,11 @@ example-run =
 -- The list of feeds, run.
 unfoldable example : Feeds Counting
 example = record { start = begin; lent = lents; got = gots; end = left; run = example-run }
+
+-- Line 3 is the last of its four.
+example-last : Line 3 example
+unfolding example begin
+example-last = record { four = refl; line = omega arith }
 
 -- It is a case of demand 3's first half.
 example-damaged : OneDamaged 0 example

@@ -1,9 +1,9 @@
--- Document 01's replies and limits that are not marked P, the order of judging an outcome, and what each request, close and finish leaves, computed.
+-- Document 01's replies and limits that are not marked P, the order of judging an outcome, and what each request and host call leaves, computed.
 use Prim.Native.Nat.{ℕ, _+_, _-_, _*_}
 use mathlib.Core.Path.{_≡_, refl}
 use mathlib.Core.List.{List, [], _∷_, _++_, map}
 use mathlib.Core.Bool.{Bool, true, false}
-use mathlib.Core.Option.{none, some}
+use mathlib.Core.Option.{Option, none, some}
 use lib.ListN.{length, set, replicate}
 use Rattle.frame.specs.Frame.{Outcome, frame, refused, wire, escape, framed, body}
 use Rattle.frame.specs.Reader.{plain, emptied}
@@ -19,20 +19,23 @@ use Rattle.sessions.specs.declared.Slot.{Slot}
 use Rattle.rules.specs.declared.Hub.{Hub}
 use Rattle.rules.specs.Hub as rules
 use Rattle.memory.specs.Octets.{same}
-use Rattle.rules.specs.Hub.{Reply, firstHub, serve, request, enter, close, finish}
+use Rattle.rules.specs.Hub.{Reply, firstHub, serve, request, enter, start, enrol, Closed, close, finish}
 
 -- ---- hubs and tables
 
--- line 2 is logged in, with these sessions
+-- lines 0 and 2 are logged in, with these sessions
 abbrev hubWith : List Slot → Hub
-hubWith ss = record { password = replicate 32 0; logins = false ∷ false ∷ true ∷ false ∷ []; slots = ss }
+hubWith ss = record { password = replicate 32 8; logins = true ∷ false ∷ true ∷ false ∷ []; slots = ss }
 
 abbrev loggedIn : Hub
 loggedIn = hubWith (replicate slotCount closedSlot)
 
--- a hub with another password
+-- a hub with another password, and one of which line 2 is not logged in
 abbrev passwordChanged : Hub → Hub
-passwordChanged h = record { password = replicate 32 8; logins = h .logins; slots = h .slots }
+passwordChanged h = record { password = replicate 32 9; logins = h .logins; slots = h .slots }
+
+abbrev loggedOut : Hub → Hub
+loggedOut h = record { password = h .password; logins = true ∷ false ∷ false ∷ false ∷ []; slots = h .slots }
 
 -- session 0102 of line 2 with these nodes, and with node n alone
 abbrev session : List Bool → Slot
@@ -47,6 +50,13 @@ opened s = hubWith (set (loggedIn .slots) 0 s)
 
 abbrev moving : Hub
 moving = opened (sessionWith 3)
+
+-- session 0103 of line 1 with node 2; it is open in slot 1
+abbrev other : Slot
+other = record { used = true; number = 0x0103; line = 1; nodes = set (replicate targetCount false) 2 true }
+
+abbrev both : Hub → Hub
+both h = hubWith (set (h .slots) 1 other)
 
 -- the nodes below n are in use: each byte of their records is 1
 abbrev windows : ℕ → List ℕ
@@ -74,11 +84,14 @@ leaves h n o h′ reply = row h (windows n) o h′ (windows n) reply
 abbrev answers : Hub → Outcome → List ℕ → Row
 answers h o reply = leaves h 4 o h reply
 
--- the right password, and one whose last byte is wrong
+-- the right password before any start and later, and one whose last byte is wrong
 abbrev passwords : List Row
 passwords =
-    leaves firstHub 4 (frame 0x3000 (replicate 32 0)) loggedIn (0xC0 ∷ 0x00 ∷ 0x04 ∷ 0x30 ∷ 0x01 ∷ 0x00 ∷ 0x35 ∷ 0xC0 ∷ [])
-    ∷ answers loggedIn (frame 0x3000 (replicate 31 0 ++ 1 ∷ [])) (wire 0x3001 (1 ∷ []))
+    leaves firstHub 4 (frame 0x3000 (replicate 32 0)) (record { password = replicate 32 0; logins = false ∷ false ∷ true ∷ false ∷ []; slots = replicate 8 closedSlot })
+    (0xC0 ∷ 0x00 ∷ 0x04 ∷ 0x30 ∷ 0x01 ∷ 0x00 ∷ 0x35 ∷ 0xC0 ∷ [])
+    ∷ leaves (loggedOut moving) 4 (frame 0x3000 (replicate 32 8)) moving (wire 0x3001 (0 ∷ []))
+    ∷ answers (loggedOut moving) (frame 0x3000 (replicate 31 8 ++ 1 ∷ [])) (wire 0x3001 (1 ∷ []))
+    ∷ answers moving (frame 0x3000 (replicate 31 8 ++ 1 ∷ [])) (wire 0x3001 (1 ∷ []))
     ∷ []
 
 -- the error frame
@@ -88,37 +101,59 @@ error e = wire 0x0000 (e ∷ [])
 -- the order of judging: a refused packet, an unknown command, a wrong length, no login, a command that is not served
 abbrev errors : List Row
 errors =
-    answers firstHub (refused 6) (error 2)
-    ∷ answers firstHub (frame 0x020A []) (error 1)
-    ∷ answers firstHub (frame 0x0200 []) (error 2)
-    ∷ answers firstHub (frame 0x0200 (3 ∷ [])) (error 12)
-    ∷ answers loggedIn (frame 0x0008 []) (error 1)
+    answers (loggedOut moving) (refused 6) (error 2)
+    ∷ answers (loggedOut moving) (frame 0x020A []) (error 1)
+    ∷ answers (loggedOut moving) (frame 0x0200 []) (error 2)
+    ∷ answers (loggedOut moving) (frame 0x0200 (3 ∷ [])) (error 12)
+    ∷ answers moving (frame 0x0008 []) (error 1)
+    ∷ []
+
+-- each request with a byte fewer and a byte more than its data length
+abbrev misfit : ℕ → ℕ → Row
+misfit c n = answers moving (frame c (replicate n 0)) (error 2)
+
+abbrev misfits : List Row
+misfits =
+    misfit 0x3000 31 ∷ misfit 0x3000 33
+    ∷ misfit 0x3002 63 ∷ misfit 0x3002 65
+    ∷ misfit 0x0200 0 ∷ misfit 0x0200 2
+    ∷ misfit 0x0206 1 ∷ misfit 0x0206 3
+    ∷ misfit 0x0208 64 ∷ misfit 0x0208 66
+    ∷ misfit 0x020D 3 ∷ misfit 0x020D 5
+    ∷ misfit 0x0106 25 ∷ misfit 0x0106 27
+    ∷ misfit 0x0108 1
+    ∷ misfit 0x0320 30 ∷ misfit 0x0320 32
     ∷ []
 
 -- the last 32 bytes become the password, or nothing changes; equal old and new is accepted
 abbrev changes : List Row
 changes =
-    leaves loggedIn 4 (frame 0x3002 (replicate 32 0 ++ replicate 32 8)) (passwordChanged loggedIn) (wire 0x3003 (0 ∷ []))
-    ∷ answers loggedIn (frame 0x3002 (replicate 31 0 ++ 8 ∷ replicate 32 0)) (wire 0x3003 (1 ∷ []))
-    ∷ answers loggedIn (frame 0x3002 (replicate 64 0)) (wire 0x3003 (0 ∷ []))
+    leaves moving 4 (frame 0x3002 (replicate 32 8 ++ replicate 32 9)) (passwordChanged moving) (wire 0x3003 (0 ∷ []))
+    ∷ answers moving (frame 0x3002 (replicate 31 8 ++ 9 ∷ replicate 32 8)) (wire 0x3003 (1 ∷ []))
+    ∷ answers moving (frame 0x3002 (replicate 64 8)) (wire 0x3003 (0 ∷ []))
     ∷ []
 
 -- 0210 follows 0201 where the node is in use
 abbrev information : List Row
 information =
-    answers loggedIn (frame 0x0200 (3 ∷ [])) (wire 0x0201 (0 ∷ 3 ∷ []) ++ wire 0x0210 ((3 ∷ 1 ∷ 1 ∷ 1 ∷ []) ++ replicate 64 1 ++ (0 ∷ 1 ∷ 1 ∷ 0 ∷ 0 ∷ 1 ∷ []) ++ replicate 50 0))
-    ∷ answers loggedIn (frame 0x0200 (4 ∷ [])) (wire 0x0201 (2 ∷ 4 ∷ []))
+    answers moving (frame 0x0200 (3 ∷ [])) (wire 0x0201 (0 ∷ 3 ∷ []) ++ wire 0x0210 ((3 ∷ 1 ∷ 1 ∷ 1 ∷ []) ++ replicate 64 1 ++ (0 ∷ 1 ∷ 1 ∷ 0 ∷ 0 ∷ 1 ∷ []) ++ replicate 50 0))
+    ∷ answers moving (frame 0x0200 (4 ∷ [])) (wire 0x0201 (2 ∷ 4 ∷ []))
     ∷ []
 
--- the node set commands confirm with status 0 and node 3, and store these bytes at this place of its record
+-- the node set commands confirm with status 0 and node 3, and store these bytes at this place of its record; status 1 for a variation above 4,
+-- 2 for a node that is not in use
 abbrev stores : Outcome → ℕ → List ℕ → List ℕ → Row
-stores o at vs reply = row loggedIn (windows 4) o loggedIn (windows 3 ++ replicate at 1 ++ vs ++ replicate (recordSize - (at + length vs)) 1) reply
+stores o at vs reply = row moving (windows 4) o moving (windows 3 ++ replicate at 1 ++ vs ++ replicate (recordSize - (at + length vs)) 1) reply
 
 abbrev confirms : List Row
 confirms =
     stores (frame 0x0206 (3 ∷ 2 ∷ [])) 70 (2 ∷ []) (0xC0 ∷ 0x00 ∷ 0x05 ∷ 0x02 ∷ 0x07 ∷ 0x00 ∷ 0x03 ∷ 0x03 ∷ 0xC0 ∷ [])
     ∷ stores (frame 0x0208 (3 ∷ replicate 64 9)) 3 (replicate 64 9) (0xC0 ∷ 0x00 ∷ 0x05 ∷ 0x02 ∷ 0x09 ∷ 0x00 ∷ 0x03 ∷ 0x0D ∷ 0xC0 ∷ [])
     ∷ stores (frame 0x020D (3 ∷ 0 ∷ 5 ∷ 2 ∷ [])) 67 (0 ∷ 5 ∷ 2 ∷ []) (0xC0 ∷ 0x00 ∷ 0x05 ∷ 0x02 ∷ 0x0E ∷ 0x00 ∷ 0x03 ∷ 0x0A ∷ 0xC0 ∷ [])
+    ∷ answers moving (frame 0x0206 (3 ∷ 5 ∷ [])) (wire 0x0207 (1 ∷ 3 ∷ []))
+    ∷ answers moving (frame 0x0206 (4 ∷ 5 ∷ [])) (wire 0x0207 (2 ∷ 4 ∷ []))
+    ∷ answers moving (frame 0x0208 (4 ∷ replicate 64 9)) (wire 0x0209 (2 ∷ 4 ∷ []))
+    ∷ answers moving (frame 0x020D (4 ∷ 0 ∷ 5 ∷ 2 ∷ [])) (wire 0x020E (2 ∷ 4 ∷ []))
     ∷ []
 
 -- a mode send of session 0102 with this count and these indices, and its confirm
@@ -128,7 +163,7 @@ modeSend count ns = frame 0x0320 ((0x01 ∷ 0x02 ∷ 1 ∷ 3 ∷ 0 ∷ 0 ∷ cou
 abbrev sent : ℕ → List ℕ
 sent status = wire 0x0321 (0x01 ∷ 0x02 ∷ status ∷ [])
 
--- node 199 is accepted and node 200 is not; counts 1 and 20 are, 0 and 21 are not
+-- node 199 is accepted and node 200 is not; counts 1 and 20 are, 0 and 21 are not; then an open number, eight slots taken, a node that is held
 abbrev modeSends : List Row
 modeSends =
     leaves loggedIn 4 (modeSend 1 (3 ∷ [])) moving (0xC0 ∷ 0x00 ∷ 0x06 ∷ 0x03 ∷ 0x21 ∷ 0x01 ∷ 0x02 ∷ 0x00 ∷ 0x27 ∷ 0xC0 ∷ [])
@@ -137,34 +172,80 @@ modeSends =
     ∷ leaves loggedIn 20 (modeSend 20 (search.below 20)) (opened (session (replicate 20 true ++ replicate (targetCount - 20) false))) (sent 0)
     ∷ leaves loggedIn 20 (modeSend 21 (search.below 20)) loggedIn (sent 5)
     ∷ answers loggedIn (modeSend 0 (3 ∷ [])) (sent 5)
+    ∷ answers moving (modeSend 1 (3 ∷ [])) (sent 3)
+    ∷ answers (hubWith (replicate 8 other)) (modeSend 1 (2 ∷ [])) (sent 4)
+    ∷ answers (opened other) (modeSend 1 (2 ∷ [])) (sent 1)
     ∷ []
 
--- removing node 3 closes its session and no other; virgin state zeroes the table and closes the session, login and password stay
+-- removing node 3 closes its session and no other; virgin state zeroes the table and closes all sessions, logins and password stay
 abbrev removals : List Row
 removals =
     row (hubWith (set (moving .slots) 1 (sessionWith 0))) (windows 4) (frame 0x0106 (8 ∷ replicate 25 0))
     (hubWith (set (loggedIn .slots) 1 (sessionWith 0))) (windows 3 ++ replicate recordSize 0) (wire 0x0107 (0 ∷ []))
-    ∷ row (passwordChanged moving) (windows 4) (frame 0x0108 []) (passwordChanged loggedIn) (replicate (4 * recordSize) 0) (wire 0x0109 [])
+    ∷ row (both moving) (windows 4) (frame 0x0108 []) loggedIn (replicate (4 * recordSize) 0) (wire 0x0109 [])
     ∷ []
 
 abbrev rows : List Row
-rows = passwords ++ errors ++ changes ++ information ++ confirms ++ modeSends ++ removals
+rows = passwords ++ errors ++ misfits ++ changes ++ information ++ confirms ++ modeSends ++ removals
 
 rows-hold : map tried rows ≡ rows
 unfolding serve request enter same rules.change rules.getNode rules.virginState rules.removeNodes rules.modeSend sessions.modeSend sessions.isLegal sessions.targetsLegal sessions.marked sessions.holdsRemoved search.any search.first search.below table.setVariation table.setField table.inUse table.bit table.information table.removeBelow table.removeOne lookup.verdict lookup.verdictOf lookup.find directory wire escape framed body xor.xorAll xor._⊕_
 rows-hold = refl
 
+-- data bytes that are missing count as 0, and a line that is missing is not logged in; the directory and feed let neither come
+missing : request loggedIn (windows 1) 2 0x0206 [] ∷ request loggedIn (windows 1) 2 0x0320 [] ∷ []
+    ≡ record { hub = loggedIn; table = replicate 70 1 ++ 0 ∷ 1 ∷ []; reply = wire 0x0207 (0 ∷ 0 ∷ []) }
+    ∷ record { hub = loggedIn; table = windows 1; reply = wire 0x0321 (0 ∷ 0 ∷ 5 ∷ []) } ∷ []
+unfolding request rules.modeSend sessions.modeSend sessions.isLegal table.setVariation table.setField table.inUse
+missing = refl
+
+strangers : map (rules.isLoggedIn loggedIn) (0 ∷ 1 ∷ 2 ∷ 3 ∷ 4 ∷ []) ≡ true ∷ false ∷ true ∷ false ∷ false ∷ []
+strangers = refl
+
 -- ---- host calls
 
--- closing line 2 takes its login, closes its session and empties its reading state; line 1 has neither; there is no line 4
-closed : close moving (plain (0 ∷ [])) 2 ∷ close moving (plain (0 ∷ [])) 1 ∷ close moving (plain (0 ∷ [])) 4 ∷ []
-    ≡ record { refusal = none; hub = firstHub; state = emptied } ∷ record { refusal = none; hub = moving; state = emptied }
-    ∷ record { refusal = some 8; hub = moving; state = plain (0 ∷ []) } ∷ []
+-- start judges the table before the password; a refused one leaves hub and table
+started : start moving (replicate 14399 1) (replicate 31 5) ∷ start moving (replicate 14400 1) (replicate 31 5) ∷ start moving (replicate 14400 1) (replicate 33 5)
+    ∷ start moving (replicate 14400 1) (replicate 32 5) ∷ []
+    ≡ record { refusal = some 7; hub = moving; table = replicate 14399 1 } ∷ record { refusal = some 14; hub = moving; table = replicate 14400 1 }
+    ∷ record { refusal = some 14; hub = moving; table = replicate 14400 1 }
+    ∷ record { refusal = none; hub = record { password = replicate 32 5; logins = replicate 4 false; slots = replicate 8 closedSlot }; table = replicate 14400 0 } ∷ []
+started = refl
+
+-- enrol judges the table, then the node, then its use; the type goes high byte first, other fields are zero
+enrolled : enrol [] 200 0x0102 ∷ enrol (replicate 14400 1) 200 0x0102 ∷ enrol (replicate 14400 1) 199 0x0102 ∷ enrol (replicate 14400 0) 0 0x0102 ∷ []
+    ≡ record { refusal = some 7; table = [] } ∷ record { refusal = some 11; table = replicate 14400 1 } ∷ record { refusal = some 12; table = replicate 14400 1 }
+    ∷ record { refusal = none; table = (1 ∷ 0x01 ∷ 0x02 ∷ []) ++ replicate 14397 0 } ∷ []
+unfolding table.inUse table.enrolledRecord
+enrolled = refl
+
+-- closing a line takes its login, closes its sessions and no other, and empties its reading state; line 3 has neither; there is no line 4
+closing : ℕ → Closed
+closing l = close (both moving) (plain (0 ∷ [])) l
+
+closed : closing 2 ∷ closing 1 ∷ closing 3 ∷ closing 4 ∷ []
+    ≡ record { refusal = none; hub = loggedOut (both loggedIn); state = emptied } ∷ record { refusal = none; hub = moving; state = emptied }
+    ∷ record { refusal = none; hub = both moving; state = emptied } ∷ record { refusal = some 8; hub = both moving; state = plain (0 ∷ []) } ∷ []
+unfolding closing
 closed = refl
 
--- room is judged before the number; the session's number goes high byte first
-finished : finish moving 0x0103 511 ∷ finish moving 0x0103 512 ∷ finish moving 0x0102 512 ∷ []
+-- room is judged before the number; the session's line is told, and its number goes high byte first
+finished : finish moving 0x0103 511 ∷ finish moving 0x0103 512 ∷ finish (both moving) 0x0102 512 ∷ finish (both moving) 0x0103 512 ∷ []
     ≡ record { answer = rules.refusedFinish 9; hub = moving; reply = [] } ∷ record { answer = rules.refusedFinish 13; hub = moving; reply = [] }
-    ∷ record { answer = rules.finishedOn 2 9; hub = loggedIn; reply = 0xC0 ∷ 0x00 ∷ 0x05 ∷ 0x03 ∷ 0x04 ∷ 0x01 ∷ 0x02 ∷ 0x01 ∷ 0xC0 ∷ [] } ∷ []
+    ∷ record { answer = rules.finishedOn 2 9; hub = both loggedIn; reply = 0xC0 ∷ 0x00 ∷ 0x05 ∷ 0x03 ∷ 0x04 ∷ 0x01 ∷ 0x02 ∷ 0x01 ∷ 0xC0 ∷ [] }
+    ∷ record { answer = rules.finishedOn 1 9; hub = moving; reply = wire 0x0304 (0x01 ∷ 0x03 ∷ []) } ∷ []
 unfolding rules.notice sessions.finish search.any search.first wire escape framed body xor.xorAll xor._⊕_
 finished = refl
+
+noticed : rules.notice 0xFF00 ≡ 0xC0 ∷ 0x00 ∷ 0x05 ∷ 0x03 ∷ 0x04 ∷ 0xFF ∷ 0x00 ∷ 0xFD ∷ 0xC0 ∷ []
+unfolding rules.notice wire escape framed body xor.xorAll xor._⊕_
+noticed = refl
+
+-- feed judges the table, then the line, then the room
+refusal : List ℕ → ℕ → ℕ → Option ℕ
+refusal t l room = rules.hub .refusal moving t emptied l [] room
+
+fed : refusal (replicate 14399 1) 4 511 ∷ refusal (replicate 14400 1) 4 511 ∷ refusal (replicate 14400 1) 3 511 ∷ refusal (replicate 14400 1) 3 512 ∷ []
+    ≡ some 7 ∷ some 8 ∷ some 9 ∷ none ∷ []
+unfolding refusal
+fed = refl
