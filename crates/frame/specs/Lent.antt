@@ -1,4 +1,4 @@
--- Reading frames on a lent record: the answer in two parts, as for packets (crate line, specs/Lent.antt).
+-- Reading frames on a lent record: the answer in two parts, as for packets (line/specs/Lent.antt).
 use Prim.Native.Nat.{ℕ}
 use mathlib.Core.List.{List}
 use Rattle.line.specs.declared.Reading.{Reading}

@@ -1,7 +1,10 @@
 // The checks on a packet in document 01's order, the numbers of their refusals, and the exclusive or of bytes.
 // Each answer is the definition's: specs/Frame.antt, specs/Answers.antt.
+ghost use Prim.Native.Nat.{_+_, _≤_};
 ghost use mathlib.Core.Path.{_≡_};
-ghost use Rattle.frame.specs.Frame.{refusal, judge};
+ghost use lib.ListN.{length, getD};
+ghost use lib.Dec.{eqb};
+ghost use Rattle.frame.specs.Frame.{around, refusal, judge};
 ghost use Rattle.frame.specs.Xor.{xorAll};
 ghost use Rattle.frame.specs.Answers.{Judges};
 use crate::AROUND;
@@ -20,10 +23,12 @@ pub fn judge(packet: &[u8]) -> Judged
     if n < AROUND {
         return Judged::Refused(PacketRefusal::TooShort);
     }
-    if packet[0] != 0 {
+    let protocol = packet[0];
+    let fits = has_length(packet);
+    if protocol != 0 {
         return Judged::Refused(PacketRefusal::WrongProtocol);
     }
-    if (packet[1] as usize) + 2 != n {
+    if !fits {
         return Judged::Refused(PacketRefusal::WrongLength);
     }
     let last = n - 1;
@@ -38,6 +43,14 @@ pub fn judge(packet: &[u8]) -> Judged
         start: HEAD,
         len: n - AROUND,
     }
+}
+
+// Whether the length byte is right: L + 2 is the decoded length.
+fn has_length(packet: &[u8]) -> bool
+    requires { ⌜ around ≤ length (now packet) ⌝ }
+    ensures { λ r. ⌜ r ≡ eqb (getD (now (packet .entry)) 1 0 + 2) (length (now (packet .entry))) ⌝ }
+{
+    (packet[1] as usize) + 2 == packet.len()
 }
 
 // Document 01's number of a packet's refusal.

@@ -66,7 +66,7 @@ pub record Answers (x : Scan State Outcome) (r : PacketAnswer) : Type 0 where
 abbrev pub answerOf : List ℕ → PacketAt → PacketAnswer
 answerOf bs t = record { used = t .used; outcome = t .outcome; reading = record { bytes = bs; count = t .place .count; mode = t .place .mode } }
 
--- Calls one after another: each is lent a record that is taken as the one before left it, and some bytes. PacketAt of them
+-- Calls one after another: each is lent a record that is taken as the one before left it, and some bytes. Told of them
 -- are the bytes used in all, the outcomes and the last record.
 pub data Calls : Reading → List ℕ → List Outcome → Reading → Type 0 where
   done : {s : Reading} → Calls s [] [] s

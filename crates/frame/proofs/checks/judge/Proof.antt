@@ -3,7 +3,7 @@ use mathlib.Core.Path.{_≡_, refl, sym, ap, _∙_}
 use native.Mathlib.Nat.{sub-zero}
 use native.Mathlib.Omega.{arith}
 use lib.ListN.{length, take}
-use borrow.Author.Tests.{lt-leb, le-leb, eq-eqb, ne-eqb}
+use borrow.Author.Tests.{lt-leb, le-leb, eq-eqb, ne-eqb, not-true, not-false}
 use Rattle.frame.specs.Xor.{xorAll}
 use Rattle.frame.specs.Frame.{judge, tooLong, tooShort, wrongProtocol, wrongLength, wrongCheck}
 use borrow.Author.Needs.{needs}
@@ -22,25 +22,19 @@ returns-2 : tie.Need-returns-2
 unfolding judge tooShort
 returns-2 c = record { told = simp (le-leb _ _ (c .before .if1 .left), lt-leb _ _ (c .if2 .taken)); within = tt }
 
-shared-slice-read-if3 : tie.Need-shared-slice-read-if3
-shared-slice-read-if3 c = search needs
+shared-slice-read-protocol : tie.Need-shared-slice-read-protocol
+shared-slice-read-protocol c = search needs
+
+has-length-requires : tie.Need-has-length-requires
+has-length-requires c κs = search needs
 
 returns-3 : tie.Need-returns-3
 unfolding judge wrongProtocol
-returns-3 c = record { told = simp (le-leb _ _ (c .before .before .before .if1 .left), le-leb _ _ (c .before .before .if2 .left), ne-eqb _ _ (c .if3 .taken)); within = tt }
-
-shared-slice-read-if4 : tie.Need-shared-slice-read-if4
-shared-slice-read-if4 c = search needs
-
-cast-if4 : tie.Need-cast-if4
-cast-if4 c = omega (arith, c .shared-slice-known3 .given 1)
-
-add-if4 : tie.Need-add-if4
-add-if4 c = omega (arith, c .shared-slice-known3 .given 1)
+returns-3 c = record { told = simp (le-leb _ _ (c .before .before .before .before .if1 .left), le-leb _ _ (c .before .before .before .if2 .left), ne-eqb _ _ (c .if3 .taken)); within = tt }
 
 returns-4 : tie.Need-returns-4
 unfolding judge wrongLength
-returns-4 c = record { told = simp (le-leb _ _ (c .before .before .before .before .before .if1 .left), le-leb _ _ (c .before .before .before .before .if2 .left), eq-eqb _ _ (c .before .before .if3 .left), ne-eqb _ _ (c .if4 .taken)); within = tt }
+returns-4 c = record { told = simp (le-leb _ _ (c .before .before .before .before .before .if1 .left), le-leb _ _ (c .before .before .before .before .if2 .left), eq-eqb _ _ (c .before .if3 .left), sym (c .before .before .has-length .ensures) ∙ not-true _ (c .if4 .taken)); within = tt }
 
 sub-last : tie.Need-sub-last
 sub-last c = search needs
@@ -62,31 +56,31 @@ xor-all-requires c κs = search needs
 
 returns-5 : tie.Need-returns-5
 unfolding judge wrongCheck
-returns-5 c = record { told = simp (le-leb _ _ (c .before .before .before .before .before .before .before .before .before .if1 .left), le-leb _ _ (c .before .before .before .before .before .before .before .before .if2 .left), eq-eqb _ _ (c .before .before .before .before .before .before .if3 .left), eq-eqb _ _ (c .before .before .before .before .if4 .left), ne-eqb _ _ (λ e. c .if5 .taken (e ∙ sym (check-due (c .before))))); within = tt }
+returns-5 c = record { told = simp (le-leb _ _ (c .before .before .before .before .before .before .before .before .before .if1 .left), le-leb _ _ (c .before .before .before .before .before .before .before .before .if2 .left), eq-eqb _ _ (c .before .before .before .before .before .if3 .left), sym (c .before .before .before .before .before .before .has-length .ensures) ∙ not-false _ (c .before .before .before .before .if4 .left), ne-eqb _ _ (λ e. c .if5 .taken (e ∙ sym (check-due (c .before))))); within = tt }
 
 shared-slice-read-high : tie.Need-shared-slice-read-high
 shared-slice-read-high c = search needs
 
 cast-high : tie.Need-cast-high
-cast-high c = omega (arith, c .shared-slice-known5 .given 2)
+cast-high c = omega (arith, c .shared-slice-known4 .given 2)
 
 shared-slice-read-low : tie.Need-shared-slice-read-low
 shared-slice-read-low c = search needs
 
 cast-low : tie.Need-cast-low
-cast-low c = omega (arith, c .shared-slice-known6 .given 3)
+cast-low c = omega (arith, c .shared-slice-known5 .given 3)
 
 mul-command : tie.Need-mul-command
-mul-command c = omega (arith, c .before .shared-slice-known5 .given 2, c .shared-slice-known6 .given 3)
+mul-command c = omega (arith, c .before .shared-slice-known4 .given 2, c .shared-slice-known5 .given 3)
 
 add-command : tie.Need-add-command
-add-command c = omega (arith, c .before .shared-slice-known5 .given 2, c .shared-slice-known6 .given 3)
+add-command c = omega (arith, c .before .shared-slice-known4 .given 2, c .shared-slice-known5 .given 3)
 
 returns-6 : tie.Need-returns-6
 unfolding judge
 returns-6 c =
     record {
-      told = simp (le-leb _ _ (c .before .before .before .before .before .before .before .before .before .before .before .if1 .left), le-leb _ _ (c .before .before .before .before .before .before .before .before .before .before .if2 .left), eq-eqb _ _ (c .before .before .before .before .before .before .before .before .if3 .left), eq-eqb _ _ (c .before .before .before .before .before .before .if4 .left), eq-eqb _ _ (c .before .before .if5 .left ∙ check-due (c .before .before .before)));
+      told = simp (le-leb _ _ (c .before .before .before .before .before .before .before .before .before .before .before .if1 .left), le-leb _ _ (c .before .before .before .before .before .before .before .before .before .before .if2 .left), eq-eqb _ _ (c .before .before .before .before .before .before .before .if3 .left), sym (c .before .before .before .before .before .before .before .before .has-length .ensures) ∙ not-false _ (c .before .before .before .before .before .before .if4 .left), eq-eqb _ _ (c .before .before .if5 .left ∙ check-due (c .before .before .before)));
       within = (refl, omega arith, omega arith);
     }
 
@@ -96,11 +90,9 @@ judge-spec =
     (tie.spec
     returns
     returns-2
-    shared-slice-read-if3
+    shared-slice-read-protocol
+    has-length-requires
     returns-3
-    shared-slice-read-if4
-    cast-if4
-    add-if4
     returns-4
     sub-last
     shared-slice-read-if5

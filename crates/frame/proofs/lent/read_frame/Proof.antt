@@ -1,4 +1,4 @@
--- `lent::read_frame` meets its contract: proofs/OnRecord.antt's walk, at `reader::read` and the two parts of its answer. Assumes nothing.
+-- `lent::read_frame` meets its contract: the walk of line's proofs/OnRecord.antt, at `reader::read` and the two parts of its answer. Assumes nothing.
 use contract.Running.{givenOf, tables, tablesOf}
 use denote.Triple.Spec.{tripleOf}
 use denote.Triple.Table.{entered, cited}
