@@ -20,7 +20,12 @@ pub(crate) fn call_line(out: &mut [u8], at: usize, answer: CallAnswer) -> usize
 {
     match answer {
         CallAnswer::Done => text::append(out, at, &report::DONE_LINE),
-        CallAnswer::Refused(refusal) => report::refused_line(out, at, rules::number(refusal), false),
+        CallAnswer::Refused(refusal) => report::refused_line(
+            out,
+            at,
+            rules::number(refusal),
+            false,
+        ),
     }
 }
 
