@@ -1,6 +1,7 @@
 // The frame layer: packets to frames and back (document 01, "From packet to frame").
 // The rules are specs/Frame.antt. Each call answers as they say: specs/Answers.antt (judging, reading), specs/Lent.antt,
-// specs/Writer.antt and specs/View.antt. It stands on what the line reader states, and on the store.
+// specs/Writer.antt and specs/View.antt. It stands on what the line reader states, and on the store. What the crates above need of the
+// line reader beside the record's types is passed on here.
 mod checks;
 mod lent;
 mod reader;
@@ -10,8 +11,12 @@ mod writer;
 pub use checks::judge;
 pub use checks::number;
 pub use lent::read_frame;
+pub use line::END;
+pub use line::ESC;
+pub use line::LIMIT;
 use line::Place;
 use line::Reading;
+pub use line::taken_place;
 pub use reader::emptied;
 pub use reader::read;
 pub use reader::read_in;

@@ -110,7 +110,7 @@ fn put_place(out: &mut [u8], at: usize, answer: WrittenAt) -> usize {
 
 // n times ESC as data, written from a place on into 13 bytes.
 fn show_at(start: usize, n: usize) {
-    let payload = [line::ESC; 251];
+    let payload = [frame::ESC; 251];
     let mut room = [FILLER; 13];
     if 251 < n {
         return;

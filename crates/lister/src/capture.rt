@@ -15,7 +15,7 @@ pub fn list(reading: Reading, left: u64, wire: &[u8], out: &mut [u8]) -> Listed
     ensures { λ r. ⌜ Lists (taken reading) left (now (wire .entry)) (now (out .entry)) (now (out .exit)) r ⌝ }
 {
     let mut bytes = reading.bytes;
-    let mut place = line::taken_place(reading);
+    let mut place = frame::taken_place(reading);
     let mut at = 0;
     let mut written = 0;
     while at < wire.len() {
@@ -36,7 +36,7 @@ pub fn list(reading: Reading, left: u64, wire: &[u8], out: &mut [u8]) -> Listed
 
 // The answer where the bytes before `at` were used.
 fn answer(
-    bytes: [u8; line::LIMIT],
+    bytes: [u8; frame::LIMIT],
     place: Place,
     left: u64,
     wire: &[u8],

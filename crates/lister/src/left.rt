@@ -20,7 +20,7 @@ pub(crate) fn left_after(left: u64, wire: &[u8]) -> u64
     let n = wire.len();
     let mut i = n;
     while 0 < i {
-        if wire[i - 1] == line::END {
+        if wire[i - 1] == frame::END {
             return (n - i) as u64;
         }
         i -= 1;

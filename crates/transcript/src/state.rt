@@ -112,7 +112,7 @@ fn show_reading(out: &mut [u8], at: usize, k: u8, reading: Reading) -> usize
     ensures { λ r. ⌜ Leaves (appendedAll (now (out .entry)) at (readingLines k (taken reading))) (now (out .exit)) r ⌝ }
 {
     let bytes = reading.bytes;
-    let place = line::taken_place(reading);
+    let place = frame::taken_place(reading);
     let mode = place.mode;
     let n = place.count;
     report::reading_line(out, at, k, mode, &bytes[0..n])
