@@ -19,9 +19,9 @@ use Rattle.sessions.specs.Search.{any, first, member, below}
 abbrev pub slotCount : ℕ
 slotCount = 8
 
--- mode send takes every node of the table, 0 to 199
+-- mode send takes nodes 0 to 199: a limit of its own, whatever else the table holds
 abbrev pub targetCount : ℕ
-targetCount = nodeCount
+targetCount = 200
 
 -- a free slot holds nothing, so that a closed session leaves no node held
 abbrev pub closedSlot : Slot

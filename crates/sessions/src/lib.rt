@@ -14,10 +14,11 @@ pub use request::mode_send_of;
 pub use slots::finish;
 pub use slots::none;
 
-// Slots for all lines together, the nodes that a session may hold, and the data bytes and indices of a mode send.
+// Slots for all lines together, the nodes that a session may hold (0 to 199, a limit of mode send's own), and the data bytes and indices of a
+// mode send.
 pub const SLOTS: usize = 8;
 
-pub const TARGETS: usize = nodes::NODES;
+pub const TARGETS: usize = 200;
 
 pub const MODE_SEND: usize = 31;
 
