@@ -27,7 +27,7 @@ use Rattle.memory.specs.Octets.{same}
 use Rattle.rules.specs.Hub as rules
 use Rattle.rules.specs.Hub.{firstHub, hub, serve}
 use Rattle.demands.specs.Calls.{World}
-use Rattle.demands.specs.Demand3.{only-error-reply}
+use Rattle.demands.specs.ErrorReply.{only-error-reply}
 
 -- a record with garbage in it
 unfoldable overfull : Reading

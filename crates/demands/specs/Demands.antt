@@ -1,17 +1,16 @@
 -- Demands 1 and 2, and the accident behind them, of any calls of the host and the serial service that keep their promises, in any order and
 -- number, each on what the last one left (Steps). Words in quotes are the papers'. Demand 3 is said so in Demand3.
--- Each is said of any kind of calls, and proved here of calls by value, in LentDemands of calls on lent records.
 use Prim.Native.Nat.{ℕ, _<_}
 use mathlib.Core.Path.{_≡_, refl, sym, ap, ap₂, _∙_}
 use mathlib.Core.List.{List, [], _++_, map}
 use mathlib.Core.Option.{Option, none, some, Option·none-ne-some, Option·some-injective}
 use native.Mathlib.Omega.{arith}
-use lib.ListN.{length, take, drop, set}
+use lib.ListN.{length, take, drop, getD, set, replicate, length-map}
 use lib.Seq.{set-getD}
 use Rattle.line.specs.declared.Reading.{Reading}
 use Rattle.frame.specs.Frame as packet
 use Rattle.frame.specs.Frame.{Outcome}
-use Rattle.frame.specs.Reader.{also, outcomes, final, State, emptied, step, read, taken}
+use Rattle.frame.specs.Reader.{also, outcomes, final, State, emptied, emptiedReading, step, read, taken}
 use Rattle.frame.specs.ReaderLaws.{scan-tells, used-all}
 use Rattle.feeds.specs.System.{Entry, Answer, refused, told, Result, Called, serveIf, settled, decided, call, results, endState, errorReply}
 use Rattle.feeds.specs.Marks.{answersOf, usedOn, toldOn, unmarked}
@@ -22,30 +21,27 @@ use Rattle.feeds.specs.CallLaws.{call-read, read-resets, read-first}
 use Rattle.feeds.specs.SystemLaws.{told-outcomes}
 use Rattle.feeds.specs.ServingLaws.{served-in-order, frames-served}
 use Rattle.feeds.specs.Cutting.{used-same}
+use Rattle.feeds.specs.OrderLaws.{linesOf, order-same}
 use Rattle.feeds.specs.ServiceLaws as service
 use Rattle.feeds.specs.ServiceLaws.{run-results, run-answers, run-end}
 use Rattle.feeds.specs.Demand3.{Line, recordAt, own-taken, has-line}
 use Rattle.rules.specs.declared.Hub.{Hub}
-use Rattle.rules.specs.Hub.{Started, Enrolled, Closed, Finish, refusedFinish, finishedOn, Finished, lineCount, feedRefusal, Reply, isLoggedIn, hub}
+use Rattle.rules.specs.Hub.{passwordSize, freshHub, firstHub, startRefusal, startBy, Started, Enrolled, Closed, Finish, refusedFinish, finishedOn, Finished, lineCount, feedRefusal, Reply, isLoggedIn, hub}
+use Rattle.rules.specs.Answers.{finishOf, answerOf, fedOf}
+use Rattle.rules.specs.PromiseLaws.{feeds-promise}
 use Rattle.demands.specs.Calls.{World}
+use Rattle.demands.specs.FeedLists.{FeedList, feedsOf}
 use Rattle.demands.specs.Invariants.{Unchanged, OneAtMost}
-use Rattle.demands.specs.Steps.{Memory, Step, feed, Return, fed, lineRecord, Made, starts, enrols, closes, finishes, feeds, Chain, Steps, refusal, finishTells, feedTells, refusalTold, isRefused, roomLent, roomBack, recordLent, recordBack, Unprivileged, loggedByAll, callOf}
-use Rattle.demands.specs.StepsLaws.{made-refusal, chain-without, steps-after, steps-logged, steps-unprivileged, steps-any}
+use Rattle.demands.specs.Steps.{Memory, Step, start, feed, Return, fed, lineRecord, Made, starts, enrols, closes, finishes, feeds, Steps, refusal, finishTells, feedTells, refusalTold, isRefused, roomLent, roomBack, recordLent, recordBack, Unprivileged, loggedByAll, callOf}
+use Rattle.demands.specs.StepsLaws.{made-refusal, steps-without, steps-after, steps-logged, steps-unprivileged, steps-any}
 use Rattle.rules.specs.Refusals.{start-refused, enrol-refused, close-refused, finish-refused}
 use Rattle.demands.specs.Guard as guard
 use Rattle.demands.specs.Logins.{logged-exactly}
-use Rattle.demands.specs.OneHolder.{one-holder}
-use Rattle.demands.specs.Demand3.{only-error-reply}
-
--- a kind of calls, and of lists of feeds: each list of such calls is one by value, and so is each list of feeds
-pub record Kind : Type 1 where
-  pub Call : Memory → Step → Return → Memory → Type 0
-  pub stepsOf : {m e : Memory} {ss : List Step} {os : List Return} → Chain Call m ss os e → Steps m ss os e
-  pub Fs : Type 0
-  pub feedsOf : Fs → Feeds hub
-
-abbrev pub byValue : Kind
-byValue = record { Call = Made; stepsOf = λ x. x; Fs = Feeds hub; feedsOf = λ F. F }
+use Rattle.sessions.specs.Sessions.{slotCount}
+use Rattle.demands.specs.OneHolder.{free, one-holder}
+use Rattle.demands.specs.Feeds.{above-none}
+use Rattle.demands.specs.FeedListLaws.{list-kept}
+use Rattle.demands.specs.ErrorReply.{only-error-reply}
 
 -- ---- Demand 1
 
@@ -77,18 +73,18 @@ pub record Answered (m : Memory) (g : Lent) (o : Got hub) (v : Memory) (u : ℕ)
   pub count : k ≡ length (r .reply)
   pub reply : o .room ≡ r .reply ++ drop k (g .room)
 
-pub record Demand1 (K : Kind) : Type 0 where
+pub record Demand1 : Type 0 where
   -- "Any bytes, numbers and lent lengths may come.": every list of calls can be made, whatever is kept at its start
-  pub any : (m : Memory) (ss : List Step) → (os : List Return) × (e : Memory) × Chain (K .Call) m ss os e
+  pub any : (m : Memory) (ss : List Step) → (os : List Return) × (e : Memory) × Steps m ss os e
   -- a call is refused exactly if a refusal applies to it, with the number of the first that does
-  pub exactly : {m v : Memory} {s : Step} {o : Return} → K .Call m s o v → refusalTold o ≡ refusal m s
+  pub exactly : {m v : Memory} {s : Step} {o : Return} → Made m s o v → refusalTold o ≡ refusal m s
   -- "A refused call changes neither the hub nor lent memory;"
-  pub untouched : {m v : Memory} {s : Step} {o : Return} → K .Call m s o v → (n : ℕ) → refusalTold o ≡ some n → Untouched m s o v
+  pub untouched : {m v : Memory} {s : Step} {o : Return} → Made m s o v → (n : ℕ) → refusalTold o ≡ some n → Untouched m s o v
   -- so a list without its refused calls is made as well: every other gives the same, and the end is the same
-  pub without : {m e : Memory} {ss : List Step} {os : List Return} → Chain (K .Call) m ss os e
-      → Chain (K .Call) m (unmarked (map isRefused os) ss) (unmarked (map isRefused os) os) e
+  pub without : {m e : Memory} {ss : List Step} {os : List Return} → Steps m ss os e
+      → Steps m (unmarked (map isRefused os) ss) (unmarked (map isRefused os) os) e
   -- "a refused packet is used up and brings one error reply only."
-  pub used-up : {m v : Memory} {g : Lent} {o : Got hub} → K .Call m (feed g) (fed o) v → (u n k : ℕ) → o .answer ≡ told u (some (packet.refused n)) k
+  pub used-up : {m v : Memory} {g : Lent} {o : Got hub} → Made m (feed g) (fed o) v → (u n k : ℕ) → o .answer ≡ told u (some (packet.refused n)) k
       → Answered m g o v u (some (packet.refused n)) k (record { hub = m .hub; table = m .table; reply = errorReply })
 
 -- ---- Demand 2
@@ -107,32 +103,51 @@ pub record Same (l : ℕ) (F G : Feeds hub) : Type 0 where
   pub replies : repliesTold (resultsIn F) ≡ repliesTold (resultsIn G)
   pub end : worldOf (F .end) ≡ worldOf (G .end)
 
-pub record Demand2 (K : Kind) : Type 0 where
+-- what is the same of two lists of feeds on all lines: outcomes with their lines, replies, and the end, records as taken
+pub record SameAll (F G : Feeds hub) : Type 0 where
+  pub told : toldAll (entriesIn F) (answersIn F) ≡ toldAll (entriesIn G) (answersIn G)
+  pub replies : repliesTold (resultsIn F) ≡ repliesTold (resultsIn G)
+  pub end : worldOf (F .end) ≡ worldOf (G .end)
+
+-- the lines that told outcomes, in order
+abbrev pub order : Feeds hub → List ℕ
+order F = linesOf (toldAll (entriesIn F) (answersIn F))
+
+pub record Demand2 : Type 0 where
   -- "Tables change only by our host or by a line that gave the password,"
-  pub guarded : {m e : Memory} {ss : List Step} {os : List Return} (x : Chain (K .Call) m ss os e) → Unprivileged (K .stepsOf x) → Unchanged (m .hub) (m .table) (e .hub) (e .table)
+  pub guarded : {m e : Memory} {ss : List Step} {os : List Return} (x : Steps m ss os e) → Unprivileged x → Unchanged (m .hub) (m .table) (e .hub) (e .table)
   -- a line is logged in exactly if it gave the right password after its last close or start, or was so at the beginning and neither came;
   -- a hub has four logins
-  pub logged : {m e : Memory} {ss : List Step} {os : List Return} (x : Chain (K .Call) m ss os e) (l : ℕ) → length (m .hub .logins) ≡ lineCount → l < lineCount
-      → isLoggedIn (e .hub) l ≡ loggedByAll l (isLoggedIn (m .hub) l) (K .stepsOf x)
+  pub logged : {m e : Memory} {ss : List Step} {os : List Return} (x : Steps m ss os e) (l : ℕ) → length (m .hub .logins) ≡ lineCount → l < lineCount
+      → isLoggedIn (e .hub) l ≡ loggedByAll l (isLoggedIn (m .hub) l) x
   -- "and each served command has the stated effect and reply": each feed's outcome is served, and nothing where there is none,
-  pub served : {m v : Memory} {g : Lent} {o : Got hub} → K .Call m (feed g) (fed o) v → (u : ℕ) (y : Option Outcome) (k : ℕ) → o .answer ≡ told u y k
+  pub served : {m v : Memory} {g : Lent} {o : Got hub} → Made m (feed g) (fed o) v → (u : ℕ) (y : Option Outcome) (k : ℕ) → o .answer ≡ told u y k
       → Answered m g o v u y k (serveIf hub (m .hub) (m .table) (g .line) y)
   -- the outcomes of a line are those of the bytes used on it, begun in the state of its record, whatever the other lines send,
-  pub told : (l : ℕ) (f : K .Fs) → let F = K .feedsOf f in Line l F → toldIn l F ≡ outcomes step (taken (recordAt l F)) (usedIn l F)
+  pub told : (l : ℕ) (f : FeedList) → let F = feedsOf f in Line l F → toldIn l F ≡ outcomes step (taken (recordAt l F)) (usedIn l F)
+  -- its record at the end is taken as the state that these bytes lead to,
+  pub kept : (l : ℕ) (f : FeedList) → let F = feedsOf f in Line l F → taken (getD (F .end .records) l emptiedReading) ≡ final step (taken (recordAt l F)) (usedIn l F)
   -- those of all lines are served one by one in order,
-  pub in-order : (f : K .Fs) → let F = K .feedsOf f in servedIn F ≡ servedFrom F (toldAll (entriesIn F) (answersIn F))
+  pub in-order : (f : FeedList) → let F = feedsOf f in servedIn F ≡ servedFrom F (toldAll (entriesIn F) (answersIn F))
   -- and so are well-formed frames that are fed to a line between packets
-  pub frames : (l : ℕ) (f : K .Fs) → let F = K .feedsOf f in Line l F → AllOn l (entriesIn F) → taken (recordAt l F) ≡ emptied
+  pub frames : (l : ℕ) (f : FeedList) → let F = feedsOf f in Line l F → AllOn l (entriesIn F) → taken (recordAt l F) ≡ emptied
       → (frames : List Sent) → usedIn l F ≡ sent frames → servedIn F ≡ servedFrom F (onLine l (map frameOf frames))
   -- "Cutting the input into calls anywhere changes no outcome and no end state": the same bytes used on a line, refused feeds included
-  pub cut : (l : ℕ) (f g : K .Fs) → let F = K .feedsOf f in let G = K .feedsOf g in Line l F → AllOn l (entriesIn F) → AllOn l (entriesIn G) → worldOf (G .start) ≡ worldOf (F .start)
+  pub cut : (l : ℕ) (f g : FeedList) → let F = feedsOf f in let G = feedsOf g in Line l F → AllOn l (entriesIn F) → AllOn l (entriesIn G) → worldOf (G .start) ≡ worldOf (F .start)
       → usedIn l F ≡ usedIn l G → Same l F G
+  -- and on several lines: the same bytes used on each of the four, the lines' outcomes in the same order
+  pub cut-lines : (f g : FeedList) → let F = feedsOf f in let G = feedsOf g in length (F .start .records) ≡ lineCount → worldOf (G .start) ≡ worldOf (F .start)
+      → ((l : ℕ) → l < lineCount → usedIn l F ≡ usedIn l G) → order F ≡ order G → SameAll F G
 
 -- ---- The accident
 
-pub record OneHolder (K : Kind) : Type 0 where
+pub record OneHolder : Type 0 where
   -- "its tables let two commands hold the same motor": a node that is in one open session at the most stays so
-  pub one : {m e : Memory} {ss : List Step} {os : List Return} → Chain (K .Call) m ss os e → (n : ℕ) → OneAtMost n (m .hub) → OneAtMost n (e .hub)
+  pub one : {m e : Memory} {ss : List Step} {os : List Return} → Steps m ss os e → (n : ℕ) → OneAtMost n (m .hub) → OneAtMost n (e .hub)
+  -- so no node is ever in two: from the hub before any start, and from an accepted start, through any calls
+  pub first : {m e : Memory} {ss : List Step} {os : List Return} → m .hub ≡ firstHub → Steps m ss os e → (n : ℕ) → OneAtMost n (e .hub)
+  pub started : {m v e : Memory} {p : List ℕ} {o : Return} {ss : List Step} {os : List Return} → Made m (start p) o v → refusalTold o ≡ none → Steps v ss os e
+      → (n : ℕ) → OneAtMost n (e .hub)
 
 -- ---- The proofs
 
@@ -155,10 +170,10 @@ same-memory a b c = rw (a, b, c)
 -- each refused call, by the law of its definition
 made-untouched : {m v : Memory} {s : Step} {o : Return} → Made m s o v → (n : ℕ) → refusalTold o ≡ some n → Untouched m s o v
 unfolding refusalTold roomLent roomBack recordLent recordBack
-made-untouched (starts {m} {p} x) n e =
+made-untouched (starts {m} {p} a x) n e =
     let q = x ∙ start-refused (m .hub) (m .table) p n (ap (λ (z : Started). z .refusal) (sym x) ∙ e) in
     record { memory = ap (λ (z : Started). record { hub = z .hub; table = z .table; records = m .records }) q; reading = refl; room = refl }
-made-untouched (enrols {m} {n = k} {type} x) n e =
+made-untouched (enrols {m} {n = k} {type} a x) n e =
     let q = x ∙ enrol-refused (m .table) k type n (ap (λ (z : Enrolled). z .refusal) (sym x) ∙ e) in
     record { memory = ap (λ (z : Enrolled). record { hub = m .hub; table = z .table; records = m .records }) q; reading = refl; room = refl }
 made-untouched (closes {m} {l} {spare} {e = r} x) n e =
@@ -169,15 +184,15 @@ made-untouched (closes {m} {l} {spare} {e = r} x) n e =
       reading = ap some kept;
       room = refl;
     }
-made-untouched (finishes {m} {x} {room} {o} y) n e =
-    let q = finish-refused (m .hub) x (length room) n (sym (y .answer) ∙ finish-told (o .answer) n e) in
+made-untouched (finishes {m} {x} {room} {a} y) n e =
+    let q = finish-refused (m .hub) x (length room) n (sym (y .answer) ∙ finish-told (finishOf a) n e) in
     record {
       memory = same-memory (y .hub ∙ ap (λ (z : Finished). z .hub) q) refl refl;
       reading = refl;
       room = ap some (y .room ∙ ap (λ (z : Finished). z .reply ++ drop (length (z .reply)) room) q);
     }
-made-untouched (feeds {m} {g} {o} x) n e =
-    let (h, t, r, room) = service.refused-untouched x n (feed-told (o .answer) n e) in
+made-untouched (feeds {m} {g} {a} {e = s} x) n e =
+    let (h, t, r, room) = service.refused-untouched (feeds-promise x) n (feed-told (answerOf a (s .bytes)) n e) in
     record { memory = same-memory h t (ap (set (m .records) (g .line)) r ∙ set-getD (m .records) (g .line) (g .spare)); reading = ap some r; room = ap some room }
 
 -- a call that is not refused read what it tells
@@ -200,7 +215,8 @@ read-stops g o s u (some y) used outcome state = state ∙ read-resets s (g .byt
 made-served : {m v : Memory} {g : Lent} {o : Got hub} → Made m (feed g) (fed o) v → (u : ℕ) (y : Option Outcome) (k : ℕ) → o .answer ≡ told u y k
     → Answered m g o v u y k (serveIf hub (m .hub) (m .table) (g .line) y)
 unfolding settled lengthOf
-made-served (feeds {m} {g} {o} x) u y k e =
+made-served (feeds {m} {g} {a} {h} {t} {e = r′} {left} x) u y k e =
+    let o : Got hub = fedOf a h t r′ left in
     let s : State = taken (recordFor hub m g) in
     let r : Reply = serveIf hub (m .hub) (m .table) (g .line) y in
     let (p, used, outcome) = call-told (m .hub) (m .table) s (g .line) (g .bytes) (length (g .room)) u y k (sym (x .answer) ∙ e) in
@@ -226,8 +242,8 @@ made-used-up : {m v : Memory} {g : Lent} {o : Got hub} → Made m (feed g) (fed 
 unfolding serveIf
 made-used-up {m} {g = g} x u n k e = rw (only-error-reply (m .hub) (m .table) (g .line) n) at (made-served x u (some (packet.refused n)) k e)
 
-pub demand-1 : Demand1 byValue
-demand-1 = record { any = steps-any; exactly = made-refusal; untouched = made-untouched; without = chain-without Made (λ m v s o x n p. made-untouched x n p .memory); used-up = made-used-up }
+pub demand-1 : Demand1
+demand-1 = record { any = steps-any; exactly = made-refusal; untouched = made-untouched; without = steps-without (λ m v s o x n p. made-untouched x n p .memory); used-up = made-used-up }
 
 -- carried over from the definitions
 steps-guarded : {m e : Memory} {ss : List Step} {os : List Return} (x : Steps m ss os e) → Unprivileged x → Unchanged (m .hub) (m .table) (e .hub) (e .table)
@@ -268,25 +284,62 @@ run-frames l F line x between frames u =
 
 -- the same bytes used come to the same
 run-cut : (l : ℕ) (F G : Feeds hub) → Line l F → AllOn l (entriesIn F) → AllOn l (entriesIn G) → worldOf (G .start) ≡ worldOf (F .start) → usedIn l F ≡ usedIn l G → Same l F G
-run-cut l F G line x y start u =
+run-cut l F G line x y begun u =
     let w : World = worldOf (F .start) in
     let es : List Entry = entriesIn F in
     let fs : List Entry = entriesIn G in
     let A : answersIn F ≡ answersOf hub w es = run-answers F in
-    let B : answersIn G ≡ answersOf hub w fs = run-answers G ∙ ap (λ (z : World). answersOf hub z fs) start in
+    let B : answersIn G ≡ answersOf hub w fs = run-answers G ∙ ap (λ (z : World). answersOf hub z fs) begun in
     let s = used-same hub l w (has-line l F line) es fs x y (ap (usedOn l es) (sym A) ∙ u ∙ ap (usedOn l fs) B) in
     record {
       told = ap (toldOn l es) A ∙ s .told ∙ ap (toldOn l fs) (sym B);
-      replies = ap repliesTold (run-results F) ∙ s .replies ∙ ap (λ (z : World). repliesTold (results hub z fs)) (sym start) ∙ ap repliesTold (sym (run-results G));
-      end = run-end F ∙ s .end ∙ ap (λ (z : World). endState hub z fs) (sym start) ∙ sym (run-end G);
+      replies = ap repliesTold (run-results F) ∙ s .replies ∙ ap (λ (z : World). repliesTold (results hub z fs)) (sym begun) ∙ ap repliesTold (sym (run-results G));
+      end = run-end F ∙ s .end ∙ ap (λ (z : World). endState hub z fs) (sym begun) ∙ sym (run-end G);
     }
 
-pub demand-2 : Demand2 byValue
-demand-2 = record { guarded = steps-guarded; logged = steps-login; served = made-served; told = run-told; in-order = run-in-order; frames = run-frames; cut = run-cut }
+-- on all lines; no line above 3 tells anything
+run-cut-lines : (F G : Feeds hub) → length (F .start .records) ≡ lineCount → worldOf (G .start) ≡ worldOf (F .start)
+    → ((l : ℕ) → l < lineCount → usedIn l F ≡ usedIn l G) → order F ≡ order G → SameAll F G
+unfolding worldOf
+run-cut-lines F G four begun used lines =
+    let w : World = worldOf (F .start) in
+    let es : List Entry = entriesIn F in
+    let fs : List Entry = entriesIn G in
+    let n : length (w .states) ≡ lineCount = length-map (F .start .records) taken ∙ four in
+    let A : answersIn F ≡ answersOf hub w es = run-answers F in
+    let B : answersIn G ≡ answersOf hub w fs = run-answers G ∙ ap (λ (z : World). answersOf hub z fs) begun in
+    let s = order-same hub w es fs (λ l h. ap (usedOn l es) (sym A) ∙ used l (omega arith) ∙ ap (usedOn l fs) B)
+    (λ l h. above-none l (omega arith) es w ∙ sym (above-none l (omega arith) fs w))
+    (ap (λ (z : List Answer). linesOf (toldAll es z)) (sym A) ∙ lines ∙ ap (λ (z : List Answer). linesOf (toldAll fs z)) B) in
+    record {
+      told = ap (toldAll es) A ∙ s .told ∙ ap (toldAll fs) (sym B);
+      replies = ap repliesTold (run-results F) ∙ s .replies ∙ ap (λ (z : World). repliesTold (results hub z fs)) (sym begun) ∙ ap repliesTold (sym (run-results G));
+      end = run-end F ∙ s .end ∙ ap (λ (z : World). endState hub z fs) (sym begun) ∙ sym (run-end G);
+    }
+
+pub demand-2 : Demand2
+demand-2 = record { guarded = steps-guarded; logged = steps-login; served = made-served; told = λ l F. run-told l (feedsOf F); in-order = λ F. run-in-order (feedsOf F); frames = λ l F. run-frames l (feedsOf F); cut = λ l F G. run-cut l (feedsOf F) (feedsOf G); kept = list-kept; cut-lines = λ F G. run-cut-lines (feedsOf F) (feedsOf G) }
 
 steps-one : {m e : Memory} {ss : List Step} {os : List Return} → Steps m ss os e → (n : ℕ) → OneAtMost n (m .hub) → OneAtMost n (e .hub)
 unfolding worldOf
 steps-one {m} {e} {ss} x n p = rw (← ap (λ (w : World). w .hub) (steps-after x)) at (one-holder n (worldOf m) (map callOf ss) p)
 
-pub no-two-holders : OneHolder byValue
-no-two-holders = record { one = steps-one }
+-- nobody holds anything in a fresh hub
+fresh-one : (p : List ℕ) (n : ℕ) → OneAtMost n (freshHub p)
+fresh-one p n = free n slotCount
+
+start-one : {m v : Memory} {p : List ℕ} {o : Return} → Made m (start p) o v → refusalTold o ≡ none → (n : ℕ) → OneAtMost n (v .hub)
+unfolding refusalTold
+start-one (starts {m} {p} a {h} {t} x) e n =
+    go (startRefusal (m .table) p) (ap (λ (z : Started). z .refusal) (sym x) ∙ e) (ap (λ (z : Started). z .hub) x)
+  where
+    go : (r : Option ℕ) → startBy r (m .hub) (m .table) p .refusal ≡ none → h ≡ startBy r (m .hub) (m .table) p .hub → OneAtMost n h
+    go none q z = rw z (fresh-one p n)
+    go (some k) q z = absurd (Option·none-ne-some k (sym q))
+
+pub no-two-holders : OneHolder
+no-two-holders = record {
+  one = steps-one;
+  first = λ e x n. steps-one x n (rw e (fresh-one (replicate passwordSize 0) n));
+  started = λ x e rest n. steps-one rest n (start-one x e n);
+}

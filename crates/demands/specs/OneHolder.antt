@@ -30,7 +30,7 @@ module _ (n : ℕ) where
   Kept r = One (r .hub)
 
   -- nobody holds anything in free slots
-  free : (k : ℕ) → holders n (replicate k sessions.closedSlot) ≤ 1
+  pub free : (k : ℕ) → holders n (replicate k sessions.closedSlot) ≤ 1
   unfolding holders
   free zero = omega arith
   free (suc k) = omega (arith, free k)

@@ -15,13 +15,15 @@ use Rattle.sessions.specs.Sessions.{isNumbered}
 use Rattle.feeds.specs.System as system
 use Rattle.feeds.specs.Marks.{outcomeOf}
 use Rattle.feeds.specs.Service as service
-use Rattle.feeds.specs.Service.{Lent, Got, entryOf, Promise, recordFor, leftBy}
+use Rattle.feeds.specs.Service.{Lent, Got, entryOf, recordFor, leftBy}
 use Rattle.rules.specs.Hub as rules
 use Rattle.rules.specs.Hub.{Started, Enrolled, Finish, refusedFinish, finishedOn, isLoggedIn, hub}
 use Rattle.rules.specs.declared.Hub.{Hub}
 use Rattle.rules.specs.declared.CallAnswer.{CallAnswer}
-use Rattle.rules.specs.Answers.{ClosedLine, closedOf, FinishedSession}
-use Rattle.rules.specs.Promises.{Starts, Enrols, Closes, Finishes}
+use Rattle.rules.specs.declared.FinishAnswer.{FinishAnswer}
+use Rattle.rules.specs.declared.FeedAnswer.{FeedAnswer}
+use Rattle.rules.specs.Answers.{refusalOf, startedOf, enrolledOf, ClosedLine, closedOf, FinishedSession, finishedOf, answerOf, fedOf}
+use Rattle.rules.specs.Promises.{Starts, Enrols, Closes, Finishes, Feeds}
 use Rattle.demands.specs.Calls as calls
 use Rattle.demands.specs.Calls.{isPassword, unlessRefused}
 
@@ -50,26 +52,25 @@ pub data Return : Type 0 where
 abbrev pub lineRecord : Memory → ℕ → Reading → Reading
 lineRecord m l spare = getD (m .records) l spare
 
--- one call that keeps its promise, and what is kept after it: hub, table and record as they are got back, all else as it was
+-- One call that keeps its promise, the relation that its `ensures` cites, and what is kept after it: hub, table and record as they are got back,
+-- all else as it was. The record may be lent or go in and out by value: the promise is the same.
 pub data Made : Memory → Step → Return → Memory → Type 0 where
-  starts : {m : Memory} {p : List ℕ} {o : Started} → Starts (m .hub) (m .table) p o
-      → Made m (start p) (started o) (record { hub = o .hub; table = o .table; records = m .records })
-  enrols : {m : Memory} {n type : ℕ} {o : Enrolled} → Enrols (m .table) n type o
-      → Made m (enrol n type) (enrolled o) (record { hub = m .hub; table = o .table; records = m .records })
+  starts : {m : Memory} {p : List ℕ} (a : CallAnswer) {h : Hub} {t : List ℕ} → Starts (m .hub) (m .table) p a h t
+      → Made m (start p) (started (startedOf a h t)) (record { hub = h; table = t; records = m .records })
+  enrols : {m : Memory} {n type : ℕ} (a : CallAnswer) {t : List ℕ} → Enrols (m .table) n type a t
+      → Made m (enrol n type) (enrolled (enrolledOf a t)) (record { hub = m .hub; table = t; records = m .records })
   closes : {m : Memory} {l : ℕ} {spare : Reading} {a : CallAnswer} {h : Hub} {e : Reading} → Closes (m .hub) (lineRecord m l spare) l a h e
       → Made m (close l spare) (closed (closedOf a h e)) (record { hub = h; table = m .table; records = set (m .records) l e })
-  finishes : {m : Memory} {x : ℕ} {room : List ℕ} {o : FinishedSession} → Finishes (m .hub) x room o
-      → Made m (finish x room) (finished o) (record { hub = o .hub; table = m .table; records = m .records })
-  feeds : {m : Memory} {g : Lent} {o : Got hub} → Promise hub (m .hub) (m .table) (recordFor hub m g) (g .line) (g .bytes) (g .room) o
-      → Made m (feed g) (fed o) (leftBy hub m g o)
+  finishes : {m : Memory} {x : ℕ} {room : List ℕ} {a : FinishAnswer} {h : Hub} {left : List ℕ} → Finishes (m .hub) x room a h left
+      → Made m (finish x room) (finished (finishedOf a h left)) (record { hub = h; table = m .table; records = m .records })
+  feeds : {m : Memory} {g : Lent} {a : FeedAnswer} {h : Hub} {t : List ℕ} {e : Reading} {left : List ℕ}
+      → Feeds (m .hub) (m .table) (recordFor hub m g) (g .line) (g .bytes) (g .room) a h t e left
+      → Made m (feed g) (fed (fedOf a h t e left)) (leftBy hub m g (fedOf a h t e left))
 
--- calls that keep `Call`, one after another: "as the last one left them, and nothing else touches these"
-pub data Chain (Call : Memory → Step → Return → Memory → Type 0) : Memory → List Step → List Return → Memory → Type 0 where
-  stop : {m : Memory} → Chain Call m [] [] m
-  next : {m v e : Memory} {s : Step} {ss : List Step} {o : Return} {os : List Return} → Call m s o v → Chain Call v ss os e → Chain Call m (s ∷ ss) (o ∷ os) e
-
-abbrev pub Steps : Memory → List Step → List Return → Memory → Type 0
-Steps = Chain Made
+-- calls one after another: each gets these "as the last one left them, and nothing else touches these"
+pub data Steps : Memory → List Step → List Return → Memory → Type 0 where
+  stop : {m : Memory} → Steps m [] [] m
+  next : {m v e : Memory} {s : Step} {ss : List Step} {o : Return} {os : List Return} → Made m s o v → Steps v ss os e → Steps m (s ∷ ss) (o ∷ os) e
 
 -- ---- refusals
 
@@ -157,11 +158,11 @@ Unprivileged (next {m} {s = s} x rest) = (isPrivileged m s ≡ false) × Unprivi
 -- whether line l is logged in after a call, where b says whether it was before: a start that is not refused and a close of l log it out, and
 -- a feed on l that tells the right password logs it in
 unfoldable pub loggedBy : ℕ → Bool → {m v : Memory} {s : Step} {o : Return} → Made m s o v → Bool
-loggedBy l b (starts {o = o} x) = unlessRefused (o .refusal) b
-loggedBy l b (enrols x) = b
+loggedBy l b (starts a x) = unlessRefused (refusalOf a) b
+loggedBy l b (enrols a x) = b
 loggedBy l b (closes {l = k} x) = cond (eqb k l) false b
 loggedBy l b (finishes x) = b
-loggedBy l b (feeds {m} {g} {o} x) = cond (eqb (g .line) l && isPassword (m .hub) (outcomeOf (o .answer))) true b
+loggedBy l b (feeds {m} {g} {a} {e = e} x) = cond (eqb (g .line) l && isPassword (m .hub) (outcomeOf (answerOf a (e .bytes)))) true b
 
 -- and after a list of calls
 unfoldable pub loggedByAll : ℕ → Bool → {m e : Memory} {ss : List Step} {os : List Return} → Steps m ss os e → Bool

@@ -16,16 +16,13 @@ use Rattle.feeds.specs.System as system
 use Rattle.feeds.specs.Marks.{outcomeOf, unmarked}
 use Rattle.feeds.specs.Service.{entryOf, worldOf, resultOf, recordFor}
 use Rattle.feeds.specs.ServiceLaws.{map-set, promise-feed}
-use Rattle.feeds.specs.Runs.{promise-any}
 use Rattle.rules.specs.declared.Hub.{Hub}
 use Rattle.rules.specs.Hub as rules
-use Rattle.rules.specs.declared.CallAnswer.{CallAnswer}
-use Rattle.rules.specs.declared.CallAnswer.the-variants as call-answer
-use Rattle.rules.specs.declared.CallRefusal.the-variants as call-cause
-use Rattle.rules.specs.Promises.{Closes}
+use Rattle.rules.specs.PromiseLaws.{feeds-promise}
+use Rattle.demands.specs.Kept.{start-any, enrol-any, close-any, finish-any, feed-any}
 use Rattle.demands.specs.Calls as calls
 use Rattle.demands.specs.Calls.{World, isPassword, unlessRefused, after, afterAll}
-use Rattle.demands.specs.Steps.{Memory, Step, start, enrol, close, finish, feed, Return, started, enrolled, closed, finished, fed, lineRecord, Made, starts, enrols, closes, finishes, feeds, Chain, Steps, stop, next, refusal, finishTells, feedTells, refusalTold, isRefusal, isRefused, isPrivileged, Unprivileged, loggedBy, loggedByAll, callOf}
+use Rattle.demands.specs.Steps.{Memory, Step, start, enrol, close, finish, feed, Return, started, enrolled, closed, finished, fed, lineRecord, Made, starts, enrols, closes, finishes, feeds, Steps, stop, next, refusal, finishTells, feedTells, refusalTold, isRefusal, isRefused, isPrivileged, Unprivileged, loggedBy, loggedByAll, callOf}
 
 -- ---- what is left
 
@@ -36,13 +33,13 @@ same-world a b = rw (a, b)
 -- a call leaves what the definition's leaves
 pub made-after : {m v : Memory} {s : Step} {o : Return} → Made m s o v → worldOf v ≡ after (worldOf m) (callOf s)
 unfolding after callOf worldOf entryOf
-made-after (starts {m} x) = ap (λ (z : rules.Started). record { hub = z .hub; table = z .table; states = map taken (m .records) }) x
-made-after (enrols {m} x) = ap (λ (z : rules.Enrolled). record { hub = m .hub; table = z .table; states = map taken (m .records) }) x
+made-after (starts {m} a x) = ap (λ (z : rules.Started). record { hub = z .hub; table = z .table; states = map taken (m .records) }) x
+made-after (enrols {m} a x) = ap (λ (z : rules.Enrolled). record { hub = m .hub; table = z .table; states = map taken (m .records) }) x
 made-after (closes {m} {l} {spare} {e = e} x) =
     let s = map-set taken (m .records) l e ∙ ap (set (map taken (m .records)) l) (x .state) in
     rw (List·getD-map taken (m .records) l spare) (same-world (x .hub) s)
 made-after (finishes {m} x) = ap (λ (h : Hub). record { hub = h; table = m .table; states = map taken (m .records) }) (x .hub)
-made-after (feeds {m} {g} x) = ap (λ (z : World × system.Result). z .0) (sym (promise-feed m g x))
+made-after (feeds {m} {g} x) = ap (λ (z : World × system.Result). z .0) (sym (promise-feed m g (feeds-promise x)))
 
 -- so do calls one after another
 pub steps-after : {m e : Memory} {ss : List Step} {os : List Return} → Steps m ss os e → worldOf e ≡ afterAll (worldOf m) (map callOf ss)
@@ -77,8 +74,8 @@ close-refusal h s l = go (rules.closeRefusal l)
 -- a call tells the refusal that applies, and none where none does
 pub made-refusal : {m v : Memory} {s : Step} {o : Return} → Made m s o v → refusalTold o ≡ refusal m s
 unfolding refusal refusalTold finishTells feedTells sessions.finish system.call system.decided system.settled
-made-refusal (starts {m} {p} x) = ap (λ (z : rules.Started). z .refusal) x ∙ start-refusal (m .hub) (m .table) p
-made-refusal (enrols {m} {n} {type} x) = ap (λ (z : rules.Enrolled). z .refusal) x ∙ enrol-refusal (m .table) n type
+made-refusal (starts {m} {p} a x) = ap (λ (z : rules.Started). z .refusal) x ∙ start-refusal (m .hub) (m .table) p
+made-refusal (enrols {m} {n} {type} a x) = ap (λ (z : rules.Enrolled). z .refusal) x ∙ enrol-refusal (m .table) n type
 made-refusal (closes {m} {l} {spare} x) = x .refusal ∙ close-refusal (m .hub) (taken (lineRecord m l spare)) l
 made-refusal (finishes {m} {x} {room} y) = ap finishTells (y .answer) ∙ go (ltb (length room) minRoom) (any (sessions.isNumbered x) (m .hub .slots)) _
   where
@@ -97,17 +94,17 @@ made-refusal (feeds {m} {g} x) = ap feedTells (x .answer) ∙ go (rules.feedRefu
     go (some n) = refl
 
 -- where a refused call leaves what is kept it can be left out
-pub chain-without : (Call : Memory → Step → Return → Memory → Type 0) → ((m v : Memory) (s : Step) (o : Return) → Call m s o v → (n : ℕ) → refusalTold o ≡ some n → v ≡ m)
-    → {m e : Memory} {ss : List Step} {os : List Return} → Chain Call m ss os e → Chain Call m (unmarked (map isRefused os) ss) (unmarked (map isRefused os) os) e
+pub steps-without : ((m v : Memory) (s : Step) (o : Return) → Made m s o v → (n : ℕ) → refusalTold o ≡ some n → v ≡ m)
+    → {m e : Memory} {ss : List Step} {os : List Return} → Steps m ss os e → Steps m (unmarked (map isRefused os) ss) (unmarked (map isRefused os) os) e
 unfolding unmarked isRefusal
-chain-without Call left stop = stop
-chain-without Call left (next {m} {v} {e} {s} {ss} {o} {os} x rest) = go (refusalTold o) refl (chain-without Call left rest)
+steps-without left stop = stop
+steps-without left (next {m} {v} {e} {s} {ss} {o} {os} x rest) = go (refusalTold o) refl (steps-without left rest)
   where
     R : List Bool
     R = map isRefused os
 
-    go : (r : Option ℕ) → refusalTold o ≡ r → Chain Call v (unmarked R ss) (unmarked R os) e
-        → Chain Call m (unmarked (isRefusal r ∷ R) (s ∷ ss)) (unmarked (isRefusal r ∷ R) (o ∷ os)) e
+    go : (r : Option ℕ) → refusalTold o ≡ r → Steps v (unmarked R ss) (unmarked R os) e
+        → Steps m (unmarked (isRefusal r ∷ R) (s ∷ ss)) (unmarked (isRefusal r ∷ R) (o ∷ os)) e
     go none p y = next x y
     go (some n) p y = rw (← left m v s o x n p) y
 
@@ -116,12 +113,12 @@ chain-without Call left (next {m} {v} {e} {s} {ss} {o} {os} x rest) = go (refusa
 -- a call logs in and out as the definition's does
 made-logged : (l : ℕ) (b : Bool) {m v : Memory} {s : Step} {o : Return} (x : Made m s o v) → loggedBy l b x ≡ calls.loggedBy l b (worldOf m) (callOf s)
 unfolding loggedBy calls.loggedBy callOf worldOf entryOf resultOf refusal refusalTold
-made-logged l b (starts {m} {p} {o} x) = ap (λ (r : Option ℕ). unlessRefused r b) (made-refusal (starts {m = m} {p = p} {o = o} x))
-made-logged l b (enrols x) = refl
+made-logged l b (starts {m} {p} a {h} {t} x) = ap (λ (r : Option ℕ). unlessRefused r b) (made-refusal (starts {m = m} {p = p} a {h = h} {t = t} x))
+made-logged l b (enrols a x) = refl
 made-logged l b (closes x) = refl
 made-logged l b (finishes x) = refl
 made-logged l b (feeds {m} {g} x) =
-    ap (λ (z : World × system.Result). cond (eqb (g .line) l && isPassword (m .hub) (outcomeOf (z .1 .answer))) true b) (sym (promise-feed m g x))
+    ap (λ (z : World × system.Result). cond (eqb (g .line) l && isPassword (m .hub) (outcomeOf (z .1 .answer))) true b) (sym (promise-feed m g (feeds-promise x)))
 
 -- so do calls one after another
 pub steps-logged : (l : ℕ) (b : Bool) {m e : Memory} {ss : List Step} {os : List Return} (x : Steps m ss os e)
@@ -135,34 +132,21 @@ steps-logged l b (next {ss = ss} x rest) =
 pub steps-unprivileged : {m e : Memory} {ss : List Step} {os : List Return} (x : Steps m ss os e) → Unprivileged x → calls.Unprivileged (worldOf m) (map callOf ss)
 unfolding isPrivileged callOf worldOf entryOf
 steps-unprivileged stop u = tt
-steps-unprivileged (next (starts x) rest) u = absurd (true≢false (u .0))
-steps-unprivileged (next (enrols x) rest) u = absurd (true≢false (u .0))
+steps-unprivileged (next (starts a x) rest) u = absurd (true≢false (u .0))
+steps-unprivileged (next (enrols a x) rest) u = absurd (true≢false (u .0))
 steps-unprivileged (next (closes x) rest) u = absurd (true≢false (u .0))
 steps-unprivileged (next (finishes x) rest) u = absurd (true≢false (u .0))
-steps-unprivileged (next (feeds {m} {g} {o} x) rest) u = (u .0, rw (← made-after (feeds {m = m} {g = g} {o = o} x)) (steps-unprivileged rest (u .1)))
+steps-unprivileged (next (feeds {m} {g} x) rest) u = (u .0, rw (← made-after (feeds {m = m} {g = g} x)) (steps-unprivileged rest (u .1)))
 
 -- ---- any list of calls can be made
 
--- a promise of close can be kept
-pub close-any : (h : Hub) (s : Reading) (l : ℕ) → (a : CallAnswer) × (h′ : Hub) × (e : Reading) × Closes h s l a h′ e
-close-any h s l = go (not (ltb l rules.lineCount)) refl
-  where
-    go : (x : Bool) → not (ltb l rules.lineCount) ≡ x → (a : CallAnswer) × (h′ : Hub) × (e : Reading) × Closes h s l a h′ e
-    go true p = (call-answer.Refused call-cause.WrongLine, h, s, record { refusal = rw p; hub = rw p; state = rw p; kept = λ n q. refl; bounded = tt })
-    go false p = (
-      call-answer.Done,
-      rules.closedLine h l,
-      emptiedReading,
-      record { refusal = rw p; hub = rw p; state = rw p; kept = λ n q. absurd (Option·none-ne-some n q); bounded = (refl, omega arith, tt) },
-    )
-
 -- any call
 pub made-any : (m : Memory) (s : Step) → (o : Return) × (v : Memory) × Made m s o v
-made-any m (start p) = (started (rules.start (m .hub) (m .table) p), _, starts refl)
-made-any m (enrol n type) = (enrolled (rules.enrol (m .table) n type), _, enrols refl)
+made-any m (start p) = let (a, h, t, x) = start-any (m .hub) (m .table) p in (_, _, starts a x)
+made-any m (enrol n type) = let (a, t, x) = enrol-any (m .table) n type in (_, _, enrols a x)
 made-any m (close l spare) = let (a, h, e, x) = close-any (m .hub) (lineRecord m l spare) l in (_, _, closes x)
-made-any m (finish x room) = (finished (record { answer = _; hub = _; room = _ }), _, finishes (record { answer = refl; hub = refl; room = refl }))
-made-any m (feed g) = let (o, x) = promise-any (m .hub) (m .table) (recordFor rules.hub m g) (g .line) (g .bytes) (g .room) in (fed o, _, feeds x)
+made-any m (finish y room) = let (a, h, left, x) = finish-any (m .hub) y room in (_, _, finishes x)
+made-any m (feed g) = let (a, h, t, e, left, x) = feed-any (m .hub) (m .table) (recordFor rules.hub m g) (g .line) (g .bytes) (g .room) in (_, _, feeds x)
 
 -- whatever is kept at the start and lent to each
 pub steps-any : (m : Memory) (ss : List Step) → (os : List Return) × (e : Memory) × Steps m ss os e

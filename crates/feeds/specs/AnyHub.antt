@@ -8,9 +8,9 @@ use Rattle.frame.specs.Reader.{END, escape, outcomes, emptied, step}
 use Rattle.frame.specs.Damage.{Damage}
 use Rattle.feeds.specs.System.{Entry, System, World, errorReply, OnlyErrorReply}
 use Rattle.feeds.specs.Marks.{answersOf, usedOn, toldOn, marks, Isolated}
-use Rattle.feeds.specs.Sent.{Sent, frameOf, enclosed, sent}
+use Rattle.feeds.specs.Sent.{Sent, frameOf, enclosed, sent, sentThen}
 use Rattle.feeds.specs.SystemLaws.{own, told-outcomes}
-use Rattle.feeds.specs.SentLaws.{outcomes-damaged, outcomes-frames, outcomes-recovered}
+use Rattle.feeds.specs.SentLaws.{outcomes-damaged, outcomes-then, outcomes-recovered}
 use Rattle.feeds.specs.Isolation.{isolated}
 
 -- A damaged frame behind the frames `before` and before the bytes `rest`: its feeds are isolated, and its outcome is a refusal from 1 to 6.
@@ -38,10 +38,10 @@ module _ (H : System) (l : ℕ) (w : World H) (has : l < length (w .states)) (es
       }
 
   -- The second half: any bytes whatever, from any state, then undisturbed frames.
-  pub frames-recovered : (bytes : List ℕ) (frames : List Sent) → usedOn l es (answersOf H w es) ≡ bytes ++ END ∷ sent frames
+  pub frames-recovered : (bytes : List ℕ) (frames : List Sent) (n : ℕ) → usedOn l es (answersOf H w es) ≡ bytes ++ END ∷ sentThen frames n
       → toldOn l es (answersOf H w es) ≡ outcomes step (own H l w) (bytes ++ END ∷ []) ++ map frameOf frames
-  frames-recovered bytes frames u =
+  frames-recovered bytes frames n u =
       told-outcomes H l es w has
       ∙ ap (outcomes step (own H l w)) u
-      ∙ outcomes-recovered (own H l w) bytes (sent frames)
-      ∙ ap (λ y. outcomes step (own H l w) (bytes ++ END ∷ []) ++ y) (outcomes-frames frames)
+      ∙ outcomes-recovered (own H l w) bytes (sentThen frames n)
+      ∙ ap (λ y. outcomes step (own H l w) (bytes ++ END ∷ []) ++ y) (outcomes-then frames n)

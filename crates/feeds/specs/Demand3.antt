@@ -15,10 +15,10 @@ use Rattle.frame.specs.ReaderLaws.{by-pieces-taken}
 use Rattle.frame.specs.Damage.{Damage}
 use Rattle.feeds.specs.System.{Entry, System, Result, World, results, endState, errorReply, OnlyErrorReply}
 use Rattle.feeds.specs.Marks.{replies, answersOf, usedOn, toldOn, marks, marked, unmarked, nonempty}
-use Rattle.feeds.specs.Sent.{Sent, frameOf, enclosed, sent}
+use Rattle.feeds.specs.Sent.{Sent, frameOf, enclosed, sent, sentThen}
 use Rattle.feeds.specs.Service.{worldOf, Feeds, entriesIn, resultsIn, answersIn, usedIn, toldIn, marksIn}
 use Rattle.feeds.specs.SystemLaws.{own}
-use Rattle.feeds.specs.SentLaws.{outcomes-frames}
+use Rattle.feeds.specs.SentLaws.{outcomes-then}
 use Rattle.feeds.specs.AnyHub.{damage-isolated, frames-recovered}
 use Rattle.feeds.specs.ServiceLaws.{run-results, run-answers, run-end}
 
@@ -45,8 +45,9 @@ module _ {H : System} where
     -- "save that between the ENDs of one frame one byte is replaced by a different one, inserted or lost, no END being involved"
     pub damaged : List ℕ
     pub damage : Damage (escape (one .bytes)) damaged
-    -- "let the bytes used on that line be" these
-    pub used : usedIn l F ≡ sent before ++ (enclosed (one .ends) damaged ++ sent after)
+    -- "let the bytes used on that line be" these, and any number of ENDs behind the last
+    pub ends : ℕ
+    pub used : usedIn l F ≡ sent before ++ (enclosed (one .ends) damaged ++ sentThen after ends)
 
   -- "That frame's feeds": "all those on its line, refused ones included, after the outcome before it on that line, or from the list's start, up to its own outcome".
   abbrev pub itsFeeds : {l : ℕ} {F : Feeds H} → OneDamaged l F → List Bool
@@ -78,7 +79,9 @@ module _ {H : System} where
     pub bytes : List ℕ
     -- "then one or more undisturbed frames of that kind", the first with an END of its own before it; it holds of none as well
     pub frames : List Sent
-    pub used : usedIn l F ≡ bytes ++ END ∷ sent frames
+    -- and any number of ENDs behind the last
+    pub ends : ℕ
+    pub used : usedIn l F ≡ bytes ++ END ∷ sentThen frames ends
 
   -- The second half's claim: "Its outcomes are those of the bytes before, closed with an END, then these frames in order."
   -- "Outcomes of any bytes are those of this page's rules, begun in the state that the record holds": cut at every END, behind bytes that lead to that state.
@@ -111,9 +114,9 @@ module _ {H : System} where
       let A : answersIn F ≡ answersOf H w es = run-answers F in
       let R : resultsIn F ≡ results H w es = run-results F in
       let M : itsFeeds d ≡ marks l (length (d .before)) es (answersOf H w es) = ap (marks l (length (d .before)) es) A in
-      let u : usedOn l es (answersOf H w es) ≡ sent (d .before) ++ (enclosed (d .one .ends) (d .damaged) ++ sent (d .after)) = ap (usedOn l es) (sym A) ∙ d .used in
+      let u : usedOn l es (answersOf H w es) ≡ sent (d .before) ++ (enclosed (d .one .ends) (d .damaged) ++ sentThen (d .after) (d .ends)) = ap (usedOn l es) (sym A) ∙ d .used in
       let b : own H l w ≡ emptied = own-taken l F ∙ d .between in
-      let x = damage-isolated H l w (has-line l F (d .line)) es only b (d .before) (d .one) (d .damaged) (sent (d .after)) (d .damage) u in
+      let x = damage-isolated H l w (has-line l F (d .line)) es only b (d .before) (d .one) (d .damaged) (sentThen (d .after) (d .ends)) (d .damage) u in
       let i = x .isolated in
       record {
         one-reply = ap₂ (λ (m : List Bool) (r : List Result). nonempty (replies (marked m r))) M R ∙ i .one-reply;
@@ -130,7 +133,7 @@ module _ {H : System} where
         number = x .number;
         least = x .least;
         greatest = x .greatest;
-        told = ap (toldOn l es) A ∙ x .told ∙ ap (λ (z : List Outcome). map frameOf (d .before) ++ refused (x .number) ∷ z) (outcomes-frames (d .after));
+        told = ap (toldOn l es) A ∙ x .told ∙ ap (λ (z : List Outcome). map frameOf (d .before) ++ refused (x .number) ∷ z) (outcomes-then (d .after) (d .ends));
       }
 
   -- The second half.
@@ -140,7 +143,7 @@ module _ {H : System} where
       let es : List Entry = entriesIn F in
       let A : answersIn F ≡ answersOf H w es = run-answers F in
       let v : List ℕ = a .bytes ++ END ∷ [] in
-      let o = frames-recovered H l w (has-line l F (a .line)) es (a .bytes) (a .frames) (ap (usedOn l es) (sym A) ∙ a .used) in
+      let o = frames-recovered H l w (has-line l F (a .line)) es (a .bytes) (a .frames) (a .ends) (ap (usedOn l es) (sym A) ∙ a .used) in
       let p = ap (λ (s : State). outcomes step s v) (own-taken l F) ∙ by-pieces-taken (recordAt l F) v .given in
       record { told = ap (toldOn l es) A ∙ o ∙ ap (λ (z : List Outcome). z ++ map frameOf (a .frames)) p }
 

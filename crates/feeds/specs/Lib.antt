@@ -15,5 +15,6 @@ pub mod ServingLaws
 pub mod Reach
 pub mod Runs
 pub mod Cutting
+pub mod OrderLaws
 pub mod Example
 pub mod ServiceExample

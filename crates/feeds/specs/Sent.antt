@@ -27,3 +27,7 @@ enclosed n w = replicate n END ++ (w ++ END ∷ [])
 unfoldable pub sent : List Sent → List ℕ
 sent [] = []
 sent (f ∷ fs) = enclosed (f .ends) (escape (f .bytes)) ++ sent fs
+
+-- The same, and n ENDs behind the last.
+abbrev pub sentThen : List Sent → ℕ → List ℕ
+sentThen fs n = sent fs ++ replicate n END

@@ -9,7 +9,7 @@ use Rattle.frame.specs.Reader.{END, escape, outcomes, final, State, emptied, st
 use Rattle.frame.specs.ReaderLaws.{outcomes-append, final-append, final-closed, outcomes-end}
 use Rattle.frame.specs.Damage.{Damage}
 use Rattle.frame.specs.DamageLaws.{damaged-refused, whole-read}
-use Rattle.feeds.specs.Sent.{Sent, frameOf, enclosed, sent}
+use Rattle.feeds.specs.Sent.{Sent, frameOf, enclosed, sent, sentThen}
 use Rattle.feeds.specs.System.{errorReply}
 
 -- The error reply is the wire form of command 0000 with byte 2.
@@ -38,10 +38,16 @@ outcomes-sent (f ∷ fs) rest =
     ∙ whole-read (f .bytes) (f .accepted) (sent fs ++ rest)
     ∙ ap (λ x. frameOf f ∷ x) (outcomes-sent fs rest)
 
--- The same, where nothing follows.
+-- The same, where nothing follows, and where only ENDs do.
 pub outcomes-frames : (fs : List Sent) → outcomes step emptied (sent fs) ≡ map frameOf fs
 unfolding outcomes
 outcomes-frames fs = ap (outcomes step emptied) (sym (append-nil (sent fs))) ∙ outcomes-sent fs [] ∙ append-nil (map frameOf fs)
+
+pub outcomes-then : (fs : List Sent) (n : ℕ) → outcomes step emptied (sentThen fs n) ≡ map frameOf fs
+unfolding outcomes
+outcomes-then fs n =
+    let ends : outcomes step emptied (replicate n END) ≡ [] = ap (outcomes step emptied) (sym (append-nil (replicate n END))) ∙ outcomes-ends n [] in
+    outcomes-sent fs (replicate n END) ∙ ap (λ y. map frameOf fs ++ y) ends ∙ append-nil (map frameOf fs)
 
 -- Frames, one that is damaged, and any bytes: the outcomes are the frames, a refusal with a number from 1 to 6, and those of the bytes.
 pub outcomes-damaged : (before : List Sent) (f : Sent) {damaged : List ℕ} → Damage (escape (f .bytes)) damaged

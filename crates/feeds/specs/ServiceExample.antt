@@ -104,6 +104,7 @@ example-damaged = record {
   before = [];
   one = one 1;
   after = one 0 ∷ [];
+  ends = 0;
   damaged = 0 ∷ 3 ∷ 1 ∷ 2 ∷ [];
   damage = example-damage;
   used = refl;

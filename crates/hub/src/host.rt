@@ -7,7 +7,6 @@ ghost use Rattle.frame.specs.Writer.{minRoom};
 ghost use Rattle.rules.specs.Room.{Replied};
 ghost use Rattle.rules.specs.Hub.{freshHub, firstHub, withSlots, notice};
 ghost use Rattle.rules.specs.Promises.{Starts, Enrols, Finishes};
-ghost use Rattle.rules.specs.Answers.{startedOf, enrolledOf, finishedOf};
 use frame::Written;
 use rules::CallAnswer;
 use rules::CallRefusal;
@@ -39,7 +38,7 @@ fn fresh(password: [u8; rules::PASSWORD]) -> Hub
 
 // Starts the hub anew: the table is zeroed.
 pub fn start(hub: Hub, table: &mut [u8], password: &[u8]) -> Started
-    ensures { λ r. ⌜ Starts hub (now (table .entry)) (now (password .entry)) (startedOf r (now (table .exit))) ⌝ }
+    ensures { λ r. ⌜ Starts hub (now (table .entry)) (now (password .entry)) (r .answer) (r .hub) (now (table .exit)) ⌝ }
 {
     if table.len() != nodes::TABLE {
         return Started {
@@ -65,7 +64,7 @@ pub fn start(hub: Hub, table: &mut [u8], password: &[u8]) -> Started
 
 // A node comes into use, with its type.
 pub fn enrol(table: &mut [u8], node: u8, kind: u16) -> CallAnswer
-    ensures { λ r. ⌜ Enrols (now (table .entry)) node kind (enrolledOf r (now (table .exit))) ⌝ }
+    ensures { λ r. ⌜ Enrols (now (table .entry)) node kind r (now (table .exit)) ⌝ }
 {
     if table.len() != nodes::TABLE {
         return CallAnswer::Refused(CallRefusal::WrongTable);
@@ -82,7 +81,7 @@ pub fn enrol(table: &mut [u8], node: u8, kind: u16) -> CallAnswer
 
 // A session is finished: frame 0304 with its number goes to its line.
 pub fn finish(hub: Hub, session: u16, room: &mut [u8]) -> Finished
-    ensures { λ r. ⌜ Finishes hub session (now (room .entry)) (finishedOf r (now (room .exit))) ⌝ }
+    ensures { λ r. ⌜ Finishes hub session (now (room .entry)) (r .answer) (r .hub) (now (room .exit)) ⌝ }
 {
     if room.len() < frame::ROOM {
         return Finished {

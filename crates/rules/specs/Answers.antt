@@ -19,8 +19,6 @@ use Rattle.rules.specs.declared.FinishAnswer.{FinishAnswer}
 use Rattle.rules.specs.declared.FinishAnswer.the-variants as finish
 use Rattle.rules.specs.declared.FeedAnswer.{FeedAnswer}
 use Rattle.rules.specs.declared.FeedAnswer.the-variants as feed
-use Rattle.rules.specs.declared.Started.{Started}
-use Rattle.rules.specs.declared.Finished.{Finished}
 
 -- the number of each refusal
 abbrev pub number : CallRefusal → ℕ
@@ -37,11 +35,11 @@ refusalOf call.Done = none
 refusalOf (call.Refused r) = some (number r)
 
 -- what each call comes to, with the memory that it was lent
-abbrev pub startedOf : Started → List ℕ → rules.Started
-startedOf r t = record { refusal = refusalOf (r .answer); hub = r .hub; table = t }
+abbrev pub startedOf : CallAnswer → Hub → List ℕ → rules.Started
+startedOf a h t = record { refusal = refusalOf a; hub = h; table = t }
 
 abbrev pub enrolledOf : CallAnswer → List ℕ → rules.Enrolled
-enrolledOf r t = record { refusal = refusalOf r; table = t }
+enrolledOf a t = record { refusal = refusalOf a; table = t }
 
 -- a closed line: refusal, hub and record
 pub record ClosedLine : Type 0 where
@@ -62,8 +60,8 @@ pub record FinishedSession : Type 0 where
   pub hub : Hub
   pub room : List ℕ
 
-abbrev pub finishedOf : Finished → List ℕ → FinishedSession
-finishedOf r room = record { answer = finishOf (r .answer); hub = r .hub; room = room }
+abbrev pub finishedOf : FinishAnswer → Hub → List ℕ → FinishedSession
+finishedOf a h room = record { answer = finishOf a; hub = h; room = room }
 
 -- a frame's data stand in the record's bytes
 abbrev pub answerOf : FeedAnswer → List ℕ → feeds.Answer

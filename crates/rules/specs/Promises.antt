@@ -10,16 +10,18 @@ use Rattle.frame.specs.Reader.{taken}
 use Rattle.feeds.specs.System.{refused, call}
 use Rattle.rules.specs.declared.Hub.{Hub}
 use Rattle.rules.specs.declared.CallAnswer.{CallAnswer}
+use Rattle.rules.specs.declared.FinishAnswer.{FinishAnswer}
 use Rattle.rules.specs.declared.FeedAnswer.{FeedAnswer}
-use Rattle.rules.specs.Hub.{Started, start, Enrolled, enrol, close, finish, hub as system}
-use Rattle.rules.specs.Answers.{refusalOf, FinishedSession, answerOf, BoundedClosed, BoundedFed}
+use Rattle.rules.specs.Hub.{start, enrol, close, finish, hub as system}
+use Rattle.rules.specs.Answers.{refusalOf, startedOf, enrolledOf, finishOf, answerOf, BoundedClosed, BoundedFed}
 
--- start and enrol: refusal, hub and table are the definition's
-abbrev pub Starts : Hub → List ℕ → List ℕ → Started → Type 0
-Starts h t p o = o ≡ start h t p
+-- Start: lent the hub h and the table t, it answers a, and leaves the hub h′ and the table t′; refusal, hub and table are the definition's.
+abbrev pub Starts : Hub → List ℕ → List ℕ → CallAnswer → Hub → List ℕ → Type 0
+Starts h t p a h′ t′ = startedOf a h′ t′ ≡ start h t p
 
-abbrev pub Enrols : List ℕ → ℕ → ℕ → Enrolled → Type 0
-Enrols t n type o = o ≡ enrol t n type
+-- Enrol: lent the table t, it answers a, and leaves the table t′; refusal and table are the definition's.
+abbrev pub Enrols : List ℕ → ℕ → ℕ → CallAnswer → List ℕ → Type 0
+Enrols t n type a t′ = enrolledOf a t′ ≡ enrol t n type
 
 -- Close a line: lent the hub h and the record s, it answers a, and leaves the hub h′ and the record e. Refusal, hub and record as taken are the
 -- definition's; a refused call leaves the record as it lies. Left to the program otherwise: the places of the record's array, of which none is held.
@@ -30,11 +32,12 @@ pub record Closes (h : Hub) (s : Reading) (l : ℕ) (a : CallAnswer) (h′ : Hub
   pub kept : (n : ℕ) → refusalOf a ≡ some n → e ≡ s
   pub bounded : BoundedClosed a e
 
--- Finish a session: answer, hub and reply are the definition's, and bytes behind the reply stay
-pub record Finishes (h : Hub) (x : ℕ) (space : List ℕ) (o : FinishedSession) : Type 0 where
-  pub answer : o .answer ≡ finish h x (length space) .answer
-  pub hub : o .hub ≡ finish h x (length space) .hub
-  pub room : o .room ≡ finish h x (length space) .reply ++ drop (length (finish h x (length space) .reply)) space
+-- Finish a session: lent the hub h and the room `space`, it answers a, and leaves the hub h′ and the room `left`. Answer, hub and reply are the
+-- definition's, and bytes behind the reply stay.
+pub record Finishes (h : Hub) (x : ℕ) (space : List ℕ) (a : FinishAnswer) (h′ : Hub) (left : List ℕ) : Type 0 where
+  pub answer : finishOf a ≡ finish h x (length space) .answer
+  pub hub : h′ ≡ finish h x (length space) .hub
+  pub room : left ≡ finish h x (length space) .reply ++ drop (length (finish h x (length space) .reply)) space
 
 -- Feed: lent the hub h, the table t, the record s and the room `space`, it answers a, and leaves the hub h′, the table t′, the record e and the
 -- room `left`. Hub, table, record as taken, answer and reply are those of the definition's call (crate feeds, specs/System.antt: call); the reply

@@ -19,7 +19,8 @@ use Rattle.sessions.specs.Sessions.{slotCount, closedSlot}
 use Rattle.rules.specs.declared.Hub.{Hub}
 use Rattle.rules.specs.Hub.{errorReply, frameError, serve, startRefusal, startBy, start, enrolRefusal, enrolBy, enrol, closeRefusal, closeBy, Closed, close, Finish, refusedFinish, Finished, finishBy, finish, lineCount, passwordSize, feedRefusal}
 use Rattle.rules.specs.declared.CallAnswer.{CallAnswer}
-use Rattle.rules.specs.Answers.{refusalOf, FinishedSession}
+use Rattle.rules.specs.declared.FinishAnswer.{FinishAnswer}
+use Rattle.rules.specs.Answers.{refusalOf, finishOf}
 use Rattle.rules.specs.Promises.{Closes, Finishes}
 
 -- start gives back the hub and the table that it was lent
@@ -59,8 +60,8 @@ finish-refused h x room n e = go (ltb room minRoom) (sessions.finish (h .slots) 
 pub close-kept : (h : Hub) (s : Reading) (l : ℕ) (a : CallAnswer) (h′ : Hub) (e : Reading) (n : ℕ) → Closes h s l a h′ e → refusalOf a ≡ some n → (h′ ≡ h) × (e ≡ s)
 close-kept h s l a h′ r n x e = (x .hub ∙ ap (λ (c : Closed). c .hub) (close-refused h (taken s) l n (sym (x .refusal) ∙ e)), x .kept n e)
 
-pub finish-kept : (h : Hub) (y : ℕ) (space : List ℕ) (o : FinishedSession) (n : ℕ) → Finishes h y space o → o .answer ≡ refusedFinish n → (o .hub ≡ h) × (o .room ≡ space)
-finish-kept h y space o n x e =
+pub finish-kept : (h : Hub) (y : ℕ) (space : List ℕ) (a : FinishAnswer) (h′ : Hub) (left : List ℕ) (n : ℕ) → Finishes h y space a h′ left → finishOf a ≡ refusedFinish n → (h′ ≡ h) × (left ≡ space)
+finish-kept h y space a h′ left n x e =
     let f = finish-refused h y (length space) n (sym (x .answer) ∙ e) in
     (x .hub ∙ ap (λ (c : Finished). c .hub) f, x .room ∙ ap (λ (c : Finished). c .reply ++ drop (length (c .reply)) space) f)
 

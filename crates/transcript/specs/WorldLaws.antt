@@ -111,7 +111,7 @@ module _ (part rest : List ℕ) (p : hasOther filler part ≡ false) (q : hasOth
         let behind : drop k left ≡ drop (length x) part = ap (drop k) e ∙ ap (λ (n : ℕ). drop n (x ++ drop (length x) part)) long ∙ drop-append-seam x (drop (length x) part) in
         rw (drop-append-le k left rest reply-within, behind) (other-append filler (drop (length x) part) rest (other-drop filler (length x) part p) q)
 
-  pub finish-told : (h : Hub) (x : ℕ) (a : FinishAnswer) (g : Hub) (left : List ℕ) → Finishes h x part (finishedOf (record { answer = a; hub = g }) left)
+  pub finish-told : (h : Hub) (x : ℕ) (a : FinishAnswer) (g : Hub) (left : List ℕ) → Finishes h x part a g left
       → finishLine a (left ++ rest) ≡ finishTold (rules.finish h x (length part) .answer) (rules.finish h x (length part) .reply)
   unfolding finishLine finishTold refusalLine
   finish-told h x (finish.Refused r) g left w =

@@ -2,15 +2,13 @@
 // What a line answers and leaves is the definition's: specs/World.antt, specs/Plays.antt.
 ghost use Prim.Native.Nat.{_≤_, min};
 ghost use mathlib.Core.Path.{_≡_};
-ghost use lib.ListN.{length, getD, set};
-ghost use Rattle.frame.specs.Reader.{emptiedReading};
+ghost use lib.ListN.{length};
 ghost use Rattle.script.specs.Script.{longest, roomMost};
 ghost use Rattle.script.specs.Answers.{decoded};
 ghost use Rattle.transcript.specs.World.{start, enrol, feed, close, finish, show, bad, playLine};
 ghost use Rattle.transcript.specs.Plays.{worldOf, firstRun, Plays};
 use crate::Run;
 use crate::answers::FILLER;
-use line::Reading;
 use rules::LINES;
 use script::Call;
 use script::LONGEST;
@@ -108,10 +106,10 @@ fn close(run: Run, line: u8, table: &[u8], out: &mut [u8]) -> Run
     ensures { λ r. ⌜ Plays (close (worldOf run (now (table .entry))) line) (now (out .entry)) (run .at) r (now (table .entry)) (now (out .exit)) ⌝ }
 {
     let readings = run.readings;
-    let closed = hub::close_by_value(run.hub, reading_of(readings, line), line);
+    let closed = hub::close_by_value(run.hub, service::record_of(readings, line), line);
     let answer = closed.answer;
     let next = closed.hub;
-    let kept = with_reading(readings, line, closed.reading);
+    let kept = service::with_record(readings, line, closed.reading);
     let end = crate::answers::call_line(out, run.at, answer);
     Run {
         hub: next,
@@ -157,14 +155,14 @@ fn feed_bytes(run: Run, table: &mut [u8], line: u8, wire: &[u8], lent: usize, ou
     let fed = hub::feed_by_value(
         run.hub,
         table,
-        reading_of(readings, line),
+        service::record_of(readings, line),
         line,
         wire,
         &mut room[0..lent],
     );
     let answer = fed.answer;
     let next = fed.hub;
-    let kept = with_reading(readings, line, fed.reading);
+    let kept = service::with_record(readings, line, fed.reading);
     let end = crate::answers::feed_line(out, run.at, answer, room);
     Run {
         hub: next,
@@ -197,32 +195,6 @@ fn bad(run: Run, table: &[u8], out: &mut [u8]) -> Run
         readings: readings,
         at: end,
     }
-}
-
-// ---- the lines' records
-
-// A line above 3 has no record of its own: it is lent an emptied one.
-fn reading_of(readings: [Reading; LINES], line: u8) -> Reading
-    ensures { λ r. ⌜ r ≡ getD readings line emptiedReading ⌝ }
-{
-    let k = line as usize;
-    if LINES <= k {
-        return frame::emptied();
-    }
-    readings[k]
-}
-
-// The records with the one that was lent.
-fn with_reading(readings: [Reading; LINES], line: u8, reading: Reading) -> [Reading; LINES]
-    ensures { λ r. ⌜ r ≡ set readings line reading ⌝ }
-{
-    let k = line as usize;
-    if LINES <= k {
-        return readings;
-    }
-    let mut out = readings;
-    out[k] = reading;
-    out
 }
 
 fn least(a: usize, b: usize) -> usize

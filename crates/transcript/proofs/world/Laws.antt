@@ -47,12 +47,12 @@ module _ {before after : List ℕ} {at end : ℕ} where
       → Leaves (appended before at text) after end → Plays x before at (record { hub = h; readings = rs; at = end }) t after
   plays-one x text h rs t e l = rw e (record { world = refl; text = all-one _ _ _ l })
 
-  pub plays-start : (r : Run) (t p : List ℕ) (a : CallAnswer) (h : Hub) (t′ : List ℕ) → Starts (r .hub) t p (startedOf (record { answer = a; hub = h }) t′)
+  pub plays-start : (r : Run) (t p : List ℕ) (a : CallAnswer) (h : Hub) (t′ : List ℕ) → Starts (r .hub) t p a h t′
       → Leaves (appended before at (callLine a)) after end → Plays (start (worldOf r t) p) before at (record { hub = h; readings = r .readings; at = end }) t′ after
   unfolding start
   plays-start r t p a h t′ s l = plays-one _ _ _ _ _ (rw (← s, call-told a)) l
 
-  pub plays-enrol : (r : Run) (t : List ℕ) (n type : ℕ) (a : CallAnswer) (t′ : List ℕ) → Enrols t n type (enrolledOf a t′)
+  pub plays-enrol : (r : Run) (t : List ℕ) (n type : ℕ) (a : CallAnswer) (t′ : List ℕ) → Enrols t n type a t′
       → Leaves (appended before at (callLine a)) after end → Plays (enrol (worldOf r t) n type) before at (record { hub = r .hub; readings = r .readings; at = end }) t′ after
   unfolding enrol
   plays-enrol r t n type a t′ s l = plays-one _ _ _ _ _ (rw (← s, call-told a)) l
@@ -66,7 +66,7 @@ module _ {before after : List ℕ} {at end : ℕ} where
 
   -- the room's first bytes are lent, `part`, and `rest` stands behind them
   module _ (part rest : List ℕ) (p : hasOther filler part ≡ false) (q : hasOther filler rest ≡ false) where
-    pub plays-finish : (r : Run) (t : List ℕ) (x : ℕ) (a : FinishAnswer) (h : Hub) (left : List ℕ) → Finishes (r .hub) x part (finishedOf (record { answer = a; hub = h }) left)
+    pub plays-finish : (r : Run) (t : List ℕ) (x : ℕ) (a : FinishAnswer) (h : Hub) (left : List ℕ) → Finishes (r .hub) x part a h left
         → Leaves (appended before at (finishLine a (left ++ rest))) after end
         → Plays (finish (worldOf r t) x (length part)) before at (record { hub = h; readings = r .readings; at = end }) t after
     unfolding finish

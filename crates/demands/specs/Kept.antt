@@ -1,9 +1,9 @@
--- Every list of feeds, and of calls, can be made on lent records: the promises of the lent feed and close can be kept, whatever is lent.
+-- Each promise can be kept, whatever is lent: so every list of calls, and of feeds, can be made.
 use Prim.Native.Nat.{ℕ, zero, suc, _+_, _-_, _≤_}
 use mathlib.Core.Path.{_≡_, refl, sym, ap, _∙_}
 use mathlib.Core.Bool.{Bool, true, false, not}
 use mathlib.Core.List.{List, [], _∷_, _++_}
-use mathlib.Core.Option.{Option, none, some}
+use mathlib.Core.Option.{Option, none, some, Option·none-ne-some}
 use native.Mathlib.Omega.{arith}
 use lib.ListN.{length, drop, replicate, length-append, length-replicate}
 use lib.Seq.{take-append-seam}
@@ -19,23 +19,71 @@ use Rattle.frame.specs.Answers as answers
 use Rattle.frame.specs.Line.{limit, recordOf, taken-held, taken-record, record-bounded}
 use Rattle.frame.specs.Reader.{State, emptiedReading, held, taken, read}
 use Rattle.frame.specs.ReaderLaws.{closed-number, read-told, read-held, read-data}
+use Rattle.frame.specs.Writer.{minRoom}
+use Rattle.nodes.specs.Table.{tableSize, isNode, inUse, emptied, enrolled}
+use Rattle.sessions.specs.Sessions as sessions
 use Rattle.feeds.specs.System as system
 use Rattle.feeds.specs.System.{Called, call, settled, serveIf}
-use Rattle.feeds.specs.Service.{Lent, recordFor, leftBy}
 use Rattle.feeds.specs.CallLaws.{read-resets, call-refused, call-read}
 use Rattle.rules.specs.declared.Hub.{Hub}
-use Rattle.nodes.specs.Table.{tableSize}
-use Rattle.frame.specs.Writer.{minRoom}
-use Rattle.rules.specs.Hub.{lineCount, wrongTable, wrongLine, shortRoom, refuseIf, closedLine, feedRefusal, hub}
+use Rattle.rules.specs.Hub.{lineCount, passwordSize, wrongTable, wrongLine, shortRoom, refuseIf, freshHub, closedLine, withSlots, notice, feedRefusal, hub}
 use Rattle.rules.specs.declared.CallRefusal.{CallRefusal}
 use Rattle.rules.specs.declared.CallRefusal.the-variants as call-cause
+use Rattle.rules.specs.declared.CallAnswer.{CallAnswer}
+use Rattle.rules.specs.declared.CallAnswer.the-variants as call-answer
+use Rattle.rules.specs.declared.FinishAnswer.{FinishAnswer}
+use Rattle.rules.specs.declared.FinishAnswer.the-variants as finish-answer
+use Rattle.rules.specs.declared.FeedAnswer.{FeedAnswer}
 use Rattle.rules.specs.declared.FeedAnswer.the-variants as feed
 use Rattle.rules.specs.Answers.{number, Bounded}
-use Rattle.rules.specs.declared.CallAnswer.the-variants as call-answer
-use Rattle.demands.specs.Steps as steps
-use Rattle.demands.specs.Steps.{Memory, Step, Return, lineRecord}
-use Rattle.demands.specs.StepsLaws.{made-any}
-use Rattle.demands.specs.LentCalls.{Back, gotOf, FedOn, Run, stop, next, Call, host, feeds, Calls}
+use Rattle.rules.specs.Promises.{Starts, Enrols, Closes, Finishes, Feeds}
+
+-- ---- host calls
+
+pub start-any : (h : Hub) (t p : List ℕ) → (a : CallAnswer) × (h′ : Hub) × (t′ : List ℕ) × Starts h t p a h′ t′
+start-any h t p = go (not (eqb (length t) tableSize)) refl (not (eqb (length p) passwordSize)) refl
+  where
+    go : (x : Bool) → not (eqb (length t) tableSize) ≡ x → (y : Bool) → not (eqb (length p) passwordSize) ≡ y → (a : CallAnswer) × (h′ : Hub) × (t′ : List ℕ) × Starts h t p a h′ t′
+    go true e y f = (call-answer.Refused call-cause.WrongTable, h, t, rw e)
+    go false e true f = (call-answer.Refused call-cause.WrongPassword, h, t, rw (e, f))
+    go false e false f = (call-answer.Done, freshHub p, emptied t, rw (e, f))
+
+pub enrol-any : (t : List ℕ) (n type : ℕ) → (a : CallAnswer) × (t′ : List ℕ) × Enrols t n type a t′
+enrol-any t n type = go (not (eqb (length t) tableSize)) refl (not (isNode n)) refl (inUse t n) refl
+  where
+    go : (x : Bool) → not (eqb (length t) tableSize) ≡ x → (y : Bool) → not (isNode n) ≡ y → (z : Bool) → inUse t n ≡ z → (a : CallAnswer) × (t′ : List ℕ) × Enrols t n type a t′
+    go true e y f z g = (call-answer.Refused call-cause.WrongTable, t, rw e)
+    go false e true f z g = (call-answer.Refused call-cause.WrongNode, t, rw (e, f))
+    go false e false f true g = (call-answer.Refused call-cause.NodeInUse, t, rw (e, f, g))
+    go false e false f false g = (call-answer.Done, enrolled t n type, rw (e, f, g))
+
+pub close-any : (h : Hub) (s : Reading) (l : ℕ) → (a : CallAnswer) × (h′ : Hub) × (e : Reading) × Closes h s l a h′ e
+close-any h s l = go (not (ltb l lineCount)) refl
+  where
+    go : (x : Bool) → not (ltb l lineCount) ≡ x → (a : CallAnswer) × (h′ : Hub) × (e : Reading) × Closes h s l a h′ e
+    go true p = (call-answer.Refused call-cause.WrongLine, h, s, record { refusal = rw p; hub = rw p; state = rw p; kept = λ n q. refl; bounded = tt })
+    go false p = (
+      call-answer.Done,
+      closedLine h l,
+      emptiedReading,
+      record { refusal = rw p; hub = rw p; state = rw p; kept = λ n q. absurd (Option·none-ne-some n q); bounded = (refl, omega arith, tt) },
+    )
+
+pub finish-any : (h : Hub) (x : ℕ) (room : List ℕ) → (a : FinishAnswer) × (h′ : Hub) × (left : List ℕ) × Finishes h x room a h′ left
+finish-any h x room = go (ltb (length room) minRoom) refl (sessions.finish (h .slots) x) refl
+  where
+    go : (b : Bool) → ltb (length room) minRoom ≡ b → (o : Option sessions.Finished) → sessions.finish (h .slots) x ≡ o
+        → (a : FinishAnswer) × (h′ : Hub) × (left : List ℕ) × Finishes h x room a h′ left
+    go true p o q = (finish-answer.Refused call-cause.ShortRoom, h, room, record { answer = rw p; hub = rw p; room = rw p })
+    go false p none q = (finish-answer.Refused call-cause.NotOpen, h, room, record { answer = rw (p, q); hub = rw (p, q); room = rw (p, q) })
+    go false p (some f) q = (
+      finish-answer.Finished (f .line) (length (notice x)),
+      withSlots h (f .slots),
+      notice x ++ drop (length (notice x)) room,
+      record { answer = rw (p, q); hub = rw (p, q); room = rw (p, q) },
+    )
+
+-- ---- feed
 
 -- each number of a packet's refusal is that of a cause
 causeOf : (n : ℕ) → 1 ≤ n → n ≤ 6 → (c : Cause) × (refusal c ≡ n)
@@ -96,74 +144,52 @@ refusal-cause t l room n = go (not (eqb (length t) tableSize)) (not (ltb l lineC
     go false false true e = (call-cause.ShortRoom, cc)
     go false false false e = let z : _≡_ {A = ℕ} 0 1 = cc in absurd (omega arith)
 
--- the promise can be kept, whatever is lent
-pub fed-any : (m : Memory) (g : Lent) → (o : Back) × FedOn m g o
+-- whatever is lent
+pub feed-any : (h : Hub) (t : List ℕ) (r : Reading) (l : ℕ) (bytes space : List ℕ)
+    → (a : FeedAnswer) × (h′ : Hub) × (t′ : List ℕ) × (e : Reading) × (left : List ℕ) × Feeds h t r l bytes space a h′ t′ e left
 unfolding settled
-fed-any m g = go (feedRefusal (m .table) (g .line) (length (g .room))) refl
+feed-any h t r l bytes space = go (feedRefusal t l (length space)) refl
   where
-    r : Reading
-    r = recordFor hub m g
-
     s : State
     s = taken r
 
-    go : (x : Option ℕ) → feedRefusal (m .table) (g .line) (length (g .room)) ≡ x → (o : Back) × FedOn m g o
+    go : (x : Option ℕ) → feedRefusal t l (length space) ≡ x
+        → (a : FeedAnswer) × (h′ : Hub) × (t′ : List ℕ) × (e : Reading) × (left : List ℕ) × Feeds h t r l bytes space a h′ t′ e left
     go (some n) p =
-        let (c, z) = refusal-cause (m .table) (g .line) (length (g .room)) n p in
-        let e = sym (call-refused hub (m .hub) (m .table) s (g .line) (g .bytes) (length (g .room)) n p) in (
-          record { given = record { answer = feed.Refused c; hub = m .hub }; table = m .table; reading = r; room = g .room },
+        let (c, z) = refusal-cause t l (length space) n p in
+        let e = sym (call-refused hub h t s l bytes (length space) n p) in (
+          feed.Refused c,
+          h,
+          t,
+          r,
+          space,
           record {
             hub = ap (λ (w : Called hub). w .hub) e;
             table = ap (λ (w : Called hub). w .table) e;
             state = ap (λ (w : Called hub). w .state) e;
             answer = ap system.refused z ∙ ap (λ (w : Called hub). w .result .answer) e;
-            room = ap (λ (w : Called hub). w .result .reply ++ drop (length (w .result .reply)) (g .room)) e;
+            room = ap (λ (w : Called hub). w .result .reply ++ drop (length (w .result .reply)) space) e;
             kept = λ k q. refl;
             bounded = tt;
           },
         )
     go none p =
-        let x = read s (g .bytes) in
-        let y = serveIf hub (m .hub) (m .table) (g .line) (x .outcome) in
-        let v = held-outcome s (g .bytes) (taken-held r) (x .outcome) refl in
-        let e : settled hub x y ≡ call hub (m .hub) (m .table) s (g .line) (g .bytes) (length (g .room)) = sym (call-read hub (m .hub) (m .table) s (g .line) (g .bytes) (length (g .room)) p) in (
-          record {
-            given = record { answer = feed.Told (x .used) (v .outcome) (length (y .reply)); hub = y .hub };
-            table = y .table;
-            reading = v .reading;
-            room = y .reply ++ drop (length (y .reply)) (g .room);
-          },
+        let x = read s bytes in
+        let y = serveIf hub h t l (x .outcome) in
+        let v = held-outcome s bytes (taken-held r) (x .outcome) refl in
+        let e : settled hub x y ≡ call hub h t s l bytes (length space) = sym (call-read hub h t s l bytes (length space) p) in (
+          feed.Told (x .used) (v .outcome) (length (y .reply)),
+          y .hub,
+          y .table,
+          v .reading,
+          y .reply ++ drop (length (y .reply)) space,
           record {
             hub = ap (λ (w : Called hub). w .hub) e;
             table = ap (λ (w : Called hub). w .table) e;
             state = v .state ∙ ap (λ (w : Called hub). w .state) e;
             answer = ap (λ (o : Option Outcome). system.told (x .used) o (length (y .reply))) (v .told) ∙ ap (λ (w : Called hub). w .result .answer) e;
-            room = ap (λ (w : Called hub). w .result .reply ++ drop (length (w .result .reply)) (g .room)) e;
+            room = ap (λ (w : Called hub). w .result .reply ++ drop (length (w .result .reply)) space) e;
             kept = λ k q. let z : _≡_ {A = ℕ} 0 1 = cc in absurd (omega arith);
             bounded = (v .bounded, v .within);
           },
         )
-
--- every list of feeds can be run
-pub run-any : (m : Memory) (gs : List Lent) → (os : List Back) × (e : Memory) × Run m gs os e
-run-any m [] = ([], m, stop)
-run-any m (g ∷ gs) =
-    let (o, x) = fed-any m g in
-    let (os, e, y) = run-any (leftBy hub m g (gotOf o)) gs in
-    (o ∷ os, e, next x y)
-
--- any call, feed on a lent record
-call-any : (m : Memory) (s : Step) → (o : Return) × (v : Memory) × Call m s o v
-call-any m (steps.start p) = let (o, v, x) = made-any m (steps.start p) in (o, v, host x)
-call-any m (steps.enrol n type) = let (o, v, x) = made-any m (steps.enrol n type) in (o, v, host x)
-call-any m (steps.close l spare) = let (o, v, x) = made-any m (steps.close l spare) in (o, v, host x)
-call-any m (steps.finish y room) = let (o, v, x) = made-any m (steps.finish y room) in (o, v, host x)
-call-any m (steps.feed g) = let (o, x) = fed-any m g in (_, _, feeds o x)
-
--- every list of calls can be made
-pub calls-any : (m : Memory) (ss : List Step) → (os : List Return) × (e : Memory) × Calls m ss os e
-calls-any m [] = ([], m, steps.stop)
-calls-any m (s ∷ ss) =
-    let (o, v, x) = call-any m s in
-    let (os, e, y) = calls-any v ss in
-    (o ∷ os, e, steps.next x y)

@@ -5,8 +5,8 @@ use Rattle.frame.specs.Reader.{emptiedReading}
 use Rattle.sessions.specs.ListLaws.{getD-there}
 use Rattle.rules.specs.Hub.{lineCount}
 use borrow.Author.Needs.{needs}
-use Rattle.transcript.proofs.world.reading_of.Statement.{statement}
-use Rattle.transcript.proofs.world.reading_of.Tie as tie
+use Rattle.service.proofs.records.record_of.Statement.{statement}
+use Rattle.service.proofs.records.record_of.Tie as tie
 
 emptied-requires : tie.Need-emptied-requires
 emptied-requires c κs = search needs
@@ -27,6 +27,6 @@ returns-2 c =
     let long : length (c .before .before .args .t1) ≡ lineCount = search needs in
     getD-there (c .before .before .args .t1) (c .before .before .args .line) _ emptiedReading (omega (arith, c .before .if1 .left))
 
-pub reading-of-spec : {M : Type 1} → statement M
-reading-of-spec =
+pub record-of-spec : {M : Type 1} → statement M
+record-of-spec =
     tie.close (tie.spec emptied-requires returns mul-result array-copy-out-result returns-2)
