@@ -4,15 +4,16 @@ use mathlib.Core.Path.{_≡_, refl, sym, ap, ap₂, _∙_}
 use mathlib.Core.Bool.{Bool}
 use mathlib.Core.List.{List, [], _∷_, map, append-nil, flatten}
 use native.Mathlib.Omega.{arith}
-use lib.ListN.{length, getD, replicate, length-replicate, length-map, List·getD-map}
+use lib.ListN.{length, getD, length-map, List·getD-map}
 use Rattle.frame.specs.Reader.{emptied, emptiedReading, taken, final, step}
 use Rattle.frame.specs.Writer.{minRoom}
 use Rattle.nodes.specs.Table.{tableSize}
 use Rattle.feeds.specs.System.{Entry}
 use Rattle.feeds.specs.Marks.{usedOn, unmarked, answersOf}
-use Rattle.feeds.specs.Serving.{Every, inPieces}
+use Rattle.feeds.specs.Serving.{inPieces}
 use Rattle.feeds.specs.SystemLaws.{own, told-final}
 use Rattle.feeds.specs.Reach.{pieces-every}
+use Rattle.feeds.specs.Runs.{lentOf, lent-entries}
 use Rattle.feeds.specs.Service.{Lent, Got, entryOf, worldOf, recordFor, leftBy, entriesIn, answersIn, usedIn}
 use Rattle.feeds.specs.ServiceLaws.{map-unmarked, run-answers, run-end}
 use Rattle.feeds.specs.Demand3.{Line, recordAt, own-taken, has-line, Without}
@@ -36,15 +37,6 @@ pub list-without : (m : List Bool) (F : FeedList) → (G : FeedList) × Without 
 list-without m F =
     let (os, e, r) = run-any (F .start) (unmarked m (F .lent)) in
     (record { start = F .start; lent = unmarked m (F .lent); got = os; end = e; run = r }, record { start = refl; entries = map-unmarked entryOf m (F .lent) })
-
--- what is lent for an entry
-lentOf : Entry → Lent
-lentOf e = record { line = e .line; bytes = e .bytes; room = replicate (e .room) 0; spare = emptiedReading }
-
-lent-entries : (es : List Entry) → Every (λ e. e .spare ≡ emptied) es → map entryOf (map lentOf es) ≡ es
-unfolding lentOf entryOf
-lent-entries [] x = refl
-lent-entries (e ∷ es) x = rw (length-replicate {A = ℕ} (e .room) 0, ← x .0) (ap (λ z. e ∷ z) (lent-entries es (x .1)))
 
 -- any bytes can be those used on a line, from any memory with a right table and four records
 pub list-used : (m : Memory) (l : ℕ) → l < lineCount → length (m .table) ≡ tableSize → length (m .records) ≡ lineCount → (bytes : List ℕ)

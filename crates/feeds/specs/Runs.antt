@@ -20,11 +20,11 @@ use Rattle.feeds.specs.Demand3.{Without}
 use Rattle.feeds.specs.CallLaws.{call-refused, call-read, answer-refused}
 
 -- What is lent for an entry.
-lentOf : Entry → Lent
+unfoldable pub lentOf : Entry → Lent
 lentOf e = record { line = e .line; bytes = e .bytes; room = replicate (e .room) 0; spare = emptiedReading }
 
 -- Its entry is the same.
-lent-entries : (es : List Entry) → Every (λ e. e .spare ≡ emptied) es → map entryOf (map lentOf es) ≡ es
+pub lent-entries : (es : List Entry) → Every (λ e. e .spare ≡ emptied) es → map entryOf (map lentOf es) ≡ es
 unfolding lentOf entryOf
 lent-entries [] x = refl
 lent-entries (e ∷ es) x = rw (length-replicate {A = ℕ} (e .room) 0, ← x .0) (ap (λ z. e ∷ z) (lent-entries es (x .1)))
