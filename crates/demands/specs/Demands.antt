@@ -3,10 +3,15 @@
 use Prim.Native.Nat.{ℕ, _<_}
 use mathlib.Core.Path.{_≡_, refl, sym, ap, ap₂, _∙_}
 use mathlib.Core.List.{List, [], _++_, map}
+use mathlib.Core.Bool.{Bool, true, false, cond, not}
 use mathlib.Core.Option.{Option, none, some, Option·none-ne-some, Option·some-injective}
 use native.Mathlib.Omega.{arith}
 use lib.ListN.{length, take, drop, getD, set, replicate, length-map}
-use lib.Seq.{set-getD}
+use lib.Seq.{set-getD, take-at}
+use lib.Dec.{ltb, eqb}
+use borrow.Author.Tests.{eqb-true}
+use Rattle.frame.specs.Writer.{minRoom}
+use Rattle.nodes.specs.Table.{tableSize}
 use Rattle.line.specs.declared.Reading.{Reading}
 use Rattle.frame.specs.Frame as packet
 use Rattle.frame.specs.Frame.{Outcome}
@@ -26,22 +31,25 @@ use Rattle.feeds.specs.ServiceLaws as service
 use Rattle.feeds.specs.ServiceLaws.{run-results, run-answers, run-end}
 use Rattle.feeds.specs.Demand3.{Line, recordAt, own-taken, has-line}
 use Rattle.rules.specs.declared.Hub.{Hub}
-use Rattle.rules.specs.Hub.{passwordSize, freshHub, firstHub, startRefusal, startBy, Started, Enrolled, Closed, Finish, refusedFinish, finishedOn, Finished, lineCount, feedRefusal, Reply, isLoggedIn, hub}
-use Rattle.rules.specs.Answers.{finishOf, answerOf, fedOf}
+use Rattle.rules.specs.Hub.{passwordSize, freshHub, firstHub, startRefusal, startBy, Started, Enrolled, Closed, Finish, refusedFinish, finishedOn, Finished, finishBy, notice, wrongTable, shortRoom, refuseIf, refuseLine, lineCount, feedRefusal, Reply, isLoggedIn, hub}
+use Rattle.rules.specs.Answers.{finishOf, FinishedSession, answerOf, fedOf}
 use Rattle.rules.specs.PromiseLaws.{feeds-promise}
 use Rattle.demands.specs.Calls.{World}
 use Rattle.demands.specs.FeedLists.{FeedList, feedsOf}
 use Rattle.demands.specs.Invariants.{Unchanged, OneAtMost}
-use Rattle.demands.specs.Steps.{Memory, Step, start, feed, Return, fed, lineRecord, Made, starts, enrols, closes, finishes, feeds, Steps, refusal, finishTells, feedTells, refusalTold, isRefused, roomLent, roomBack, recordLent, recordBack, Unprivileged, loggedByAll, callOf}
+use Rattle.demands.specs.Steps.{Memory, Step, start, finish, feed, Return, finished, fed, lineRecord, Made, starts, enrols, closes, finishes, feeds, Steps, refusal, finishTells, feedTells, refusalTold, isRefused, roomLent, roomBack, recordLent, recordBack, Unprivileged, loggedByAll, callOf}
 use Rattle.demands.specs.StepsLaws.{made-refusal, steps-without, steps-after, steps-logged, steps-unprivileged, steps-any}
+use Rattle.rules.specs.Frames.{Frames, serve-frames, notice-frames}
 use Rattle.rules.specs.Refusals.{start-refused, enrol-refused, close-refused, finish-refused}
 use Rattle.demands.specs.Guard as guard
 use Rattle.demands.specs.Logins.{logged-exactly}
+use Rattle.sessions.specs.Sessions as sessions
 use Rattle.sessions.specs.Sessions.{slotCount}
 use Rattle.demands.specs.OneHolder.{free, one-holder}
 use Rattle.demands.specs.Feeds.{above-none}
 use Rattle.demands.specs.FeedListLaws.{list-kept}
 use Rattle.demands.specs.ErrorReply.{only-error-reply}
+use Rattle.demands.specs.Frames.{ReadExactly, WrittenExactly, read-exactly, read-frames}
 
 -- ---- Demand 1
 
@@ -114,6 +122,9 @@ abbrev pub order : Feeds hub → List ℕ
 order F = linesOf (toldAll (entriesIn F) (answersIn F))
 
 pub record Demand2 : Type 0 where
+  -- "Frames are read and written exactly as the KLF 200 specification 3.18 says."
+  pub read : ReadExactly
+  pub written : WrittenExactly
   -- "Tables change only by our host or by a line that gave the password,"
   pub guarded : {m e : Memory} {ss : List Step} {os : List Return} (x : Steps m ss os e) → Unprivileged x → Unchanged (m .hub) (m .table) (e .hub) (e .table)
   -- a line is logged in exactly if it gave the right password after its last close or start, or was so at the beginning and neither came;
@@ -245,6 +256,39 @@ made-used-up {m} {g = g} x u n k e = rw (only-error-reply (m .hub) (m .table) (g
 pub demand-1 : Demand1
 demand-1 = record { any = steps-any; exactly = made-refusal; untouched = made-untouched; without = steps-without (λ m v s o x n p. made-untouched x n p .memory); used-up = made-used-up }
 
+-- a feed that is not refused was lent a table of the right length
+table-right : (t : List ℕ) (l room : ℕ) → feedRefusal t l room ≡ none → length t ≡ tableSize
+table-right t l room = go (eqb (length t) tableSize) refl
+  where
+    go : (b : Bool) → eqb (length t) tableSize ≡ b → cond {A = Option ℕ} (not b) (some wrongTable) (refuseLine l (refuseIf (ltb room minRoom) shortRoom none)) ≡ none → length t ≡ tableSize
+    go true q p = eqb-true (length t) tableSize q
+    go false q p = absurd (Option·none-ne-some wrongTable (sym p))
+
+-- what is written: the reply to the outcome, which is frames on a table of the right length
+serveIf-frames : (h : Hub) (t : List ℕ) (l room : ℕ) (y : Option Outcome) → feedRefusal t l room ≡ none → Frames (serveIf hub h t l y .reply)
+unfolding serveIf sent
+serveIf-frames h t l room none p = record { frames = []; ends = tt; bytes = refl }
+serveIf-frames h t l room (some y) p = serve-frames h t l y (table-right t l room p)
+
+-- the front of a room in which a reply of k bytes stands is the reply
+front : (room reply lent : List ℕ) (k : ℕ) → room ≡ reply ++ lent → k ≡ length reply → Frames reply → Frames (take k room)
+front room reply lent k e n x = rw (e, take-at reply lent k (sym n)) x
+
+made-frames : {m v : Memory} {g : Lent} {o : Got hub} → Made m (feed g) (fed o) v → (u : ℕ) (y : Option Outcome) (k : ℕ) → o .answer ≡ told u y k → Frames (take k (o .room))
+made-frames (feeds {m} {g} {a} {h} {t} {e = r′} {left} x) u y k e =
+    let z = made-served (feeds {m = m} {g = g} {a = a} {h = h} {t = t} {e = r′} {left = left} x) u y k e in
+    let (p, used, outcome) = call-told (m .hub) (m .table) (taken (recordFor hub m g)) (g .line) (g .bytes) (length (g .room)) u y k (sym (x .answer) ∙ e) in
+    front left (serveIf hub (m .hub) (m .table) (g .line) y .reply) (drop k (g .room)) k (z .reply) (z .count) (serveIf-frames (m .hub) (m .table) (g .line) (length (g .room)) y p)
+
+finish-frames : {m v : Memory} {x : ℕ} {room : List ℕ} {o : FinishedSession} → Made m (finish x room) (finished o) v → (l k : ℕ) → o .answer ≡ finishedOn l k → Frames (take k (o .room))
+finish-frames (finishes {m} {x} {room} {a} {h} {left} y) l k e = go (ltb (length room) minRoom) (sessions.finish (m .hub .slots) x) (sym (y .answer) ∙ e) (y .room)
+  where
+    go : (b : Bool) (o : Option sessions.Finished) → finishBy b o (m .hub) x .answer ≡ finishedOn l k
+        → left ≡ finishBy b o (m .hub) x .reply ++ drop (length (finishBy b o (m .hub) x .reply)) room → Frames (take k left)
+    go true o q r = let z : _≡_ {A = ℕ} 0 1 = cc in absurd (omega arith)
+    go false none q r = let z : _≡_ {A = ℕ} 0 1 = cc in absurd (omega arith)
+    go false (some f) q r = let n : k ≡ length (notice x) = cc in front left (notice x) (drop (length (notice x)) room) k r n (notice-frames x)
+
 -- carried over from the definitions
 steps-guarded : {m e : Memory} {ss : List Step} {os : List Return} (x : Steps m ss os e) → Unprivileged x → Unchanged (m .hub) (m .table) (e .hub) (e .table)
 unfolding worldOf
@@ -318,7 +362,7 @@ run-cut-lines F G four begun used lines =
     }
 
 pub demand-2 : Demand2
-demand-2 = record { guarded = steps-guarded; logged = steps-login; served = made-served; told = λ l F. run-told l (feedsOf F); in-order = λ F. run-in-order (feedsOf F); frames = λ l F. run-frames l (feedsOf F); cut = λ l F G. run-cut l (feedsOf F) (feedsOf G); kept = list-kept; cut-lines = λ F G. run-cut-lines (feedsOf F) (feedsOf G) }
+demand-2 = record { read = read-exactly (λ l F. run-told l (feedsOf F)) list-kept; written = record { by-feed = made-frames; by-finish = finish-frames; read-back = read-frames }; guarded = steps-guarded; logged = steps-login; served = made-served; told = λ l F. run-told l (feedsOf F); in-order = λ F. run-in-order (feedsOf F); frames = λ l F. run-frames l (feedsOf F); cut = λ l F G. run-cut l (feedsOf F) (feedsOf G); kept = list-kept; cut-lines = λ F G. run-cut-lines (feedsOf F) (feedsOf G) }
 
 steps-one : {m e : Memory} {ss : List Step} {os : List Return} → Steps m ss os e → (n : ℕ) → OneAtMost n (m .hub) → OneAtMost n (e .hub)
 unfolding worldOf

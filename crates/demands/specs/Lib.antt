@@ -11,5 +11,6 @@ pub mod ErrorReply
 pub mod Feeds
 pub mod FeedListLaws
 pub mod Demand3
+pub mod Frames
 pub mod Demands
 pub mod Demand3Example

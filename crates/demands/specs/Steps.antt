@@ -11,6 +11,7 @@ use Rattle.line.specs.declared.Reading.{Reading}
 use Rattle.frame.specs.Reader.{taken}
 use Rattle.frame.specs.Writer.{minRoom}
 use Rattle.sessions.specs.Search.{any}
+use Rattle.sessions.specs.Sessions as sessions
 use Rattle.sessions.specs.Sessions.{isNumbered}
 use Rattle.feeds.specs.System as system
 use Rattle.feeds.specs.Marks.{outcomeOf}
@@ -80,7 +81,7 @@ refusal m (start p) = rules.startRefusal (m .table) p
 refusal m (enrol n type) = rules.enrolRefusal (m .table) n
 refusal m (close l spare) = rules.closeRefusal l
 refusal m (finish x room) =
-    rules.refuseIf (ltb (length room) minRoom) rules.shortRoom (rules.refuseIf (not (any (isNumbered x) (m .hub .slots))) rules.notOpen none)
+    rules.refuseIf (ltb (length room) minRoom) rules.shortRoom (rules.refuseIf (not (any (isNumbered x) (m .hub .slots))) sessions.notOpen none)
 refusal m (feed g) = rules.feedRefusal (m .table) (g .line) (length (g .room))
 
 -- the one that finish tells, and feed

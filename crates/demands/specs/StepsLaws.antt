@@ -80,7 +80,7 @@ made-refusal (closes {m} {l} {spare} x) = x .refusal ∙ close-refusal (m .hub) 
 made-refusal (finishes {m} {x} {room} y) = ap finishTells (y .answer) ∙ go (ltb (length room) minRoom) (any (sessions.isNumbered x) (m .hub .slots)) _
   where
     go : (a b : Bool) (f : sessions.Finished)
-        → finishTells (rules.finishBy a (cond b (some f) none) (m .hub) x .answer) ≡ rules.refuseIf a rules.shortRoom (rules.refuseIf (not b) rules.notOpen none)
+        → finishTells (rules.finishBy a (cond b (some f) none) (m .hub) x .answer) ≡ rules.refuseIf a rules.shortRoom (rules.refuseIf (not b) sessions.notOpen none)
     go true b f = refl
     go false true f = refl
     go false false f = refl

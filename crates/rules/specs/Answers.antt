@@ -7,6 +7,7 @@ use lib.ListN.{length}
 use Rattle.line.specs.declared.Reading.{Reading}
 use Rattle.frame.specs.Line.{limit, Clear}
 use Rattle.frame.specs.Answers as outcome
+use Rattle.sessions.specs.Sessions as sessions
 use Rattle.feeds.specs.System as feeds
 use Rattle.feeds.specs.Service.{Got}
 use Rattle.rules.specs.declared.Hub.{Hub}
@@ -27,7 +28,7 @@ number cause.WrongLine = rules.wrongLine
 number cause.ShortRoom = rules.shortRoom
 number cause.WrongNode = rules.wrongNode
 number cause.NodeInUse = rules.nodeInUse
-number cause.NotOpen = rules.notOpen
+number cause.NotOpen = sessions.notOpen
 number cause.WrongPassword = rules.wrongPassword
 
 abbrev pub refusalOf : CallAnswer → Option ℕ

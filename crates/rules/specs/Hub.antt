@@ -24,7 +24,7 @@ lineCount = 4
 abbrev pub passwordSize : ℕ
 passwordSize = 32
 
--- ---- numbers of refusal, of the calls
+-- ---- numbers of refusal, of the calls; 13 is the sessions' own
 
 abbrev pub wrongTable : ℕ
 wrongTable = 7
@@ -40,9 +40,6 @@ wrongNode = 11
 
 abbrev pub nodeInUse : ℕ
 nodeInUse = 12
-
-abbrev pub notOpen : ℕ
-notOpen = 13
 
 abbrev pub wrongPassword : ℕ
 wrongPassword = 14
@@ -267,7 +264,7 @@ pub record Finished : Type 0 where
 
 abbrev pub finishBy : Bool → Option sessions.Finished → Hub → ℕ → Finished
 finishBy true o h x = record { answer = refusedFinish shortRoom; hub = h; reply = [] }
-finishBy false none h x = record { answer = refusedFinish notOpen; hub = h; reply = [] }
+finishBy false none h x = record { answer = refusedFinish sessions.notOpen; hub = h; reply = [] }
 finishBy false (some f) h x = record { answer = finishedOn (f .line) (length (notice x)); hub = withSlots h (f .slots); reply = notice x }
 
 abbrev pub finish : Hub → ℕ → ℕ → Finished

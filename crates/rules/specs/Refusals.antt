@@ -7,17 +7,18 @@ use mathlib.Core.Bool.{Bool, true, false}
 use native.Mathlib.Omega.{arith}
 use Rattle.frame.specs.Frame.{refused}
 use Rattle.line.specs.declared.Reading.{Reading}
-use Rattle.frame.specs.Reader.{State, taken}
+use Rattle.frame.specs.Reader.{State, emptied, taken}
 use lib.Dec.{ltb}
-use lib.ListN.{length, drop, replicate}
+use lib.ListN.{length, drop, getD, set, replicate}
 use borrow.Author.Tests.{eq-eqb, ne-eqb, lt-ltb, le-ltb}
 use Rattle.frame.specs.Writer.{minRoom}
 use Rattle.nodes.specs.Table.{tableSize, nodeCount, inUse, enrolled}
 use Rattle.nodes.specs.TableLaws.{used-below}
 use Rattle.sessions.specs.Sessions as sessions
-use Rattle.sessions.specs.Sessions.{slotCount, closedSlot}
+use Rattle.sessions.specs.Search.{any, first}
+use Rattle.sessions.specs.Sessions.{slotCount, closedSlot, isNumbered}
 use Rattle.rules.specs.declared.Hub.{Hub}
-use Rattle.rules.specs.Hub.{errorReply, frameError, serve, startRefusal, startBy, start, enrolRefusal, enrolBy, enrol, closeRefusal, closeBy, Closed, close, Finish, refusedFinish, Finished, finishBy, finish, lineCount, passwordSize, feedRefusal}
+use Rattle.rules.specs.Hub.{errorReply, frameError, serve, startRefusal, startBy, start, enrolRefusal, enrolBy, enrol, closeRefusal, closeBy, Closed, closedLine, close, Finish, refusedFinish, finishedOn, Finished, finishBy, finish, notice, withSlots, lineCount, passwordSize, feedRefusal}
 use Rattle.rules.specs.declared.CallAnswer.{CallAnswer}
 use Rattle.rules.specs.declared.FinishAnswer.{FinishAnswer}
 use Rattle.rules.specs.Answers.{refusalOf, finishOf}
@@ -95,6 +96,26 @@ enrol-used t n type e u = rw (eq-eqb (length t) tableSize e, lt-ltb n nodeCount 
 
 pub enrol-done : (t : List ℕ) (n type : ℕ) → length t ≡ tableSize → n < nodeCount → inUse t n ≡ false → enrol t n type ≡ record { refusal = none; table = enrolled t n type }
 enrol-done t n type e h u = rw (eq-eqb (length t) tableSize e, lt-ltb n nodeCount h, u)
+
+-- close a line: a line above 3 (8)
+pub close-line : (h : Hub) (s : State) (l : ℕ) → 3 < l → close h s l .refusal ≡ some 8
+close-line h s l e = rw (le-ltb l lineCount (omega arith))
+
+pub close-done : (h : Hub) (s : State) (l : ℕ) → l ≤ 3 → close h s l ≡ record { refusal = none; hub = closedLine h l; state = emptied }
+close-done h s l e = rw (lt-ltb l lineCount (omega arith))
+
+-- finish: room below 512 (9), a number that is not open (13); otherwise it closes the lowest slot that has it, tells its line and writes frame 0304
+pub finish-room : (h : Hub) (x room : ℕ) → room < 512 → finish h x room .answer ≡ refusedFinish 9
+finish-room h x room e = rw (lt-ltb room minRoom e)
+
+pub finish-not-open : (h : Hub) (x room : ℕ) → 512 ≤ room → any (isNumbered x) (h .slots) ≡ false → finish h x room .answer ≡ refusedFinish 13
+unfolding sessions.finish
+finish-not-open h x room e n = rw (le-ltb room minRoom e, n)
+
+pub finish-done : (h : Hub) (x room : ℕ) → 512 ≤ room → any (isNumbered x) (h .slots) ≡ true → let k = first (isNumbered x) (h .slots) in
+    finish h x room ≡ record { answer = finishedOn (getD (h .slots) k closedSlot .line) (length (notice x)); hub = withSlots h (set (h .slots) k closedSlot); reply = notice x }
+unfolding sessions.finish
+finish-done h x room e n = rw (le-ltb room minRoom e, n)
 
 -- feed: a table of another length (7), a line above 3 (8), room below 512 (9)
 pub refused-table : (t : List ℕ) (l room : ℕ) → (length t ≡ tableSize → ⊥) → feedRefusal t l room ≡ some 7

@@ -19,7 +19,7 @@ use Rattle.sessions.specs.declared.Owner.the-variants.{Line, NotOpen}
 use Rattle.sessions.specs.declared.Ended.{Ended}
 use Rattle.sessions.specs.Search.{any, first, member, below}
 use Rattle.sessions.specs.SearchLaws.{member-last}
-use Rattle.sessions.specs.Sessions.{closedSlot, isOn, closeLine, holdsRemoved, closeRemoved, isFree, isNumbered, holds, close, closeAll, targetCount, maxIndices, named, targetsLegal, isLegal, marked, sessionSlot, modeSend, Finished, ended}
+use Rattle.sessions.specs.Sessions.{closedSlot, isOn, closeLine, holdsRemoved, closeRemoved, isFree, isNumbered, holds, close, closeAll, targetCount, maxIndices, named, targetsLegal, isLegal, marked, sessionSlot, modeSend, Finished, Ends}
 
 -- a mode send leaves the slots, or opens a session in the lowest free one, of whose nodes none is held
 pub modeSend-leaves : (P : List Slot → Type 0) (ss : List Slot) (t : List ℕ) (l : ℕ) (r : ModeSend) → P ss
@@ -129,13 +129,12 @@ closeAll-free (s ∷ ss) zero e = absurd (omega arith)
 closeAll-free (s ∷ ss) (suc n) e = ap (λ (l : List Slot). closedSlot ∷ l) (closeAll-free ss n (omega arith))
 
 -- what finish gives, from what the code tells
-pub ended-open : (e : Ended) (ss : List Slot) (o : Option Finished) (l : ℕ) → e ≡ ended ss o → e .told ≡ Line l → o ≡ some (record { line = l; slots = e .slots })
-ended-open e ss none l x y = let z : _≡_ {A = ℕ} 0 1 = cc (ap (λ (d : Ended). d .told) x) in absurd (omega arith)
+pub ended-open : (e : Ended) (ss : List Slot) (o : Option Finished) (l : ℕ) → Ends ss o e → e .told ≡ Line l → o ≡ some (record { line = l; slots = e .slots })
+ended-open e ss none l x y = let z : _≡_ {A = ℕ} 0 1 = cc (x .told) in absurd (omega arith)
 ended-open e ss (some f) l x y =
-    let line : f .line ≡ l = cc (ap (λ (d : Ended). d .told) x) in
-    let slots : f .slots ≡ e .slots = sym (ap (λ (d : Ended). d .slots) x) in
-    rw (← line, ← slots)
+    let line : f .line ≡ l = cc (x .told) in
+    rw (← line, ← x .slots)
 
-pub ended-not-open : (e : Ended) (ss : List Slot) (o : Option Finished) → e ≡ ended ss o → e .told ≡ NotOpen → o ≡ none
+pub ended-not-open : (e : Ended) (ss : List Slot) (o : Option Finished) → Ends ss o e → e .told ≡ NotOpen → o ≡ none
 ended-not-open e ss none x y = refl
-ended-not-open e ss (some f) x y = let z : _≡_ {A = ℕ} 0 1 = cc (ap (λ (d : Ended). d .told) x) in absurd (omega arith)
+ended-not-open e ss (some f) x y = let z : _≡_ {A = ℕ} 0 1 = cc (x .told) in absurd (omega arith)

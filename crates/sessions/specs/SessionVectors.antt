@@ -11,7 +11,7 @@ use Rattle.sessions.specs.declared.Slot.{Slot}
 use Rattle.sessions.specs.declared.ModeSend.{ModeSend}
 use Rattle.sessions.specs.declared.Owner.the-variants.{Line, NotOpen}
 use Rattle.sessions.specs.Search.{any, first, below}
-use Rattle.sessions.specs.Sessions.{slotCount, targetCount, closedSlot, isFree, isNumbered, isOn, holds, holders, closeAll, closeLine, holdsRemoved, closeRemoved, modeSendSize, maxIndices, modeSendOf, targetsLegal, isLegal, marked, sessionSlot, modeSend, finish, ended}
+use Rattle.sessions.specs.Sessions.{slotCount, targetCount, closedSlot, isFree, isNumbered, isOn, holds, holders, closeAll, closeLine, holdsRemoved, closeRemoved, modeSendSize, maxIndices, modeSendOf, targetsLegal, isLegal, marked, sessionSlot, modeSend, finish, refused, onLine, told, toldBy}
 
 unfoldable nodes : List ℕ
 nodes = replicate (20 * 72) 1
@@ -148,10 +148,12 @@ removed-last : map (λ (b : ℕ). holdsRemoved over (replicate 24 0 ++ b ∷ 255
 unfolding over request with-199 holdsRemoved any below bit inUse marked
 removed-last = refl
 
--- what finish tells: the line and the slots, or that the number is not open
-told : ended (left ∷ []) (some (record { line = 3; slots = closedSlot ∷ [] })) ∷ ended (left ∷ []) none ∷ []
-    ≡ record { told = Line 3; slots = closedSlot ∷ [] } ∷ record { told = NotOpen; slots = left ∷ [] } ∷ []
-told = refl
+-- what finish tells: the line, or refusal 13; of both answers
+tells : told (some (record { line = 3; slots = closedSlot ∷ [] })) ∷ told none ∷ [] ≡ onLine 3 ∷ refused 13 ∷ []
+tells = refl
+
+answers : map toldBy (Line 3 ∷ NotOpen ∷ []) ≡ onLine 3 ∷ refused 13 ∷ []
+answers = refl
 
 -- the data bytes 0 to 30
 read : modeSendOf (below 31) ≡ record { session = 1; originator = 2; priority = 3; count = 6; indices = drop 7 (below 27); lock = 27 }

@@ -1,5 +1,6 @@
 -- The sessions (document 01, mode send and the host calls): who holds which motor.
 use Prim.Native.Nat.{ℕ, _+_, _*_}
+use mathlib.Core.Path.{_≡_}
 use mathlib.Core.List.{List, [], _∷_, map}
 use mathlib.Core.Bool.{Bool, true, false, cond, not, _&&_}
 use mathlib.Core.Option.{Option, none, some}
@@ -9,6 +10,7 @@ use Rattle.nodes.specs.Table.{inUse, isRemoved, nodeCount}
 use Rattle.sessions.specs.declared.Slot.{Slot}
 use Rattle.sessions.specs.declared.ModeSend.{ModeSend}
 use Rattle.sessions.specs.declared.Sent.{Sent}
+use Rattle.sessions.specs.declared.Owner.{Owner}
 use Rattle.sessions.specs.declared.Owner.the-variants.{Line, NotOpen}
 use Rattle.sessions.specs.declared.Ended.{Ended}
 use Rattle.sessions.specs.Search.{any, first, member, below}
@@ -163,7 +165,25 @@ abbrev pub leftBy : Option Finished → List Slot → List Slot
 leftBy none ss = ss
 leftBy (some f) ss = f .slots
 
--- the same as the code tells it: the slots stay as they were where the number is not open
-abbrev pub ended : List Slot → Option Finished → Ended
-ended ss none = record { told = NotOpen; slots = ss }
-ended ss (some f) = record { told = Line (f .line); slots = f .slots }
+-- document 01's number of refusal
+abbrev pub notOpen : ℕ
+notOpen = 13
+
+-- what is told of it: a refusal, by its number, or the session's line
+pub data Told : Type 0 where
+  refused : ℕ → Told
+  onLine : ℕ → Told
+
+abbrev pub told : Option Finished → Told
+told none = refused notOpen
+told (some f) = onLine (f .line)
+
+-- the same of an answer
+abbrev pub toldBy : Owner → Told
+toldBy NotOpen = refused notOpen
+toldBy (Line l) = onLine l
+
+-- what `finish` promises: what is told, and the slots; they stay as they were where the number is not open
+pub record Ends (ss : List Slot) (o : Option Finished) (e : Ended) : Type 0 where
+  pub told : toldBy (e .told) ≡ told o
+  pub slots : e .slots ≡ leftBy o ss

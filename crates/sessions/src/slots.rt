@@ -3,7 +3,7 @@
 ghost use mathlib.Core.Path.{_≡_};
 ghost use lib.ListN.{replicate};
 ghost use Rattle.sessions.specs.Search.{first};
-ghost use Rattle.sessions.specs.Sessions.{slotCount, closedSlot, isNumbered, holds, finish, ended};
+ghost use Rattle.sessions.specs.Sessions.{slotCount, closedSlot, isNumbered, holds, finish, Ends};
 use crate::Ended;
 use crate::Owner;
 use crate::Slot;
@@ -18,7 +18,7 @@ pub fn none() -> [Slot; crate::SLOTS]
 
 // The session with a number closes, in the lowest slot that has it.
 pub fn finish(slots: [Slot; crate::SLOTS], number: u16) -> Ended
-    ensures { λ r. ⌜ r ≡ ended slots (finish slots number) ⌝ }
+    ensures { λ r. ⌜ Ends slots (finish slots number) r ⌝ }
 {
     let k = first_numbered(slots, number);
     if crate::SLOTS <= k {

@@ -28,7 +28,9 @@ first-numbered-requires c κs = search needs
 
 returns : tie.Need-returns
 unfolding finish
-returns c = simp (place (c .before) ∙ le-ltb _ _ (c .if1 .taken))
+returns c =
+    let e = place (c .before) ∙ le-ltb _ _ (c .if1 .taken) in
+    record { told = simp e; slots = simp e }
 
 mul-slot : tie.Need-mul-slot
 mul-slot c = search needs
@@ -47,7 +49,12 @@ array-set-from-out c = search needs
 
 returns-2 : tie.Need-returns-2
 unfolding finish
-returns-2 c = simp (place (c .before .before .before) ∙ lt-ltb _ _ (c .before .before .if1 .left), c .closed-slot .ensures, c .before .before .before .first-numbered .ensures, there (c .before .before))
+returns-2 c =
+    let e = place (c .before .before .before) ∙ lt-ltb _ _ (c .before .before .if1 .left) in
+    record {
+      told = simp (e, c .before .before .before .first-numbered .ensures, there (c .before .before));
+      slots = simp (e, c .closed-slot .ensures, c .before .before .before .first-numbered .ensures);
+    }
 
 pub finish-spec : {M : Type 1} → statement M
 finish-spec =
