@@ -3,6 +3,7 @@ pub mod Cases
 pub mod Refusals
 pub mod Promises
 pub mod Lengths
+pub mod Longest
 pub mod Examples
 pub mod Replies
 pub mod Answers
