@@ -12,6 +12,7 @@ pub mod FrameVectors
 pub mod XorLaws
 pub mod JudgeLaws
 pub mod WireLaws
+pub mod DoubledLaws
 pub mod ReaderLaws
 pub mod EscapeLaws
 pub mod RoundTrip

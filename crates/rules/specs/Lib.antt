@@ -4,6 +4,7 @@ pub mod Refusals
 pub mod Promises
 pub mod Lengths
 pub mod Frames
+pub mod Longest
 pub mod Examples
 pub mod Replies
 pub mod Answers

@@ -1,0 +1,164 @@
+-- The longest reply has 212 bytes on the wire: 10 of frame 0201, and 202 of frame 0210. No hub, table, line or outcome gives a longer one.
+use Prim.Native.Nat.{ℕ, _+_, _*_, _/_, _%_, _≤_}
+use mathlib.Core.Path.{_≡_, refl, subst}
+use mathlib.Core.List.{List, [], _∷_, _++_}
+use mathlib.Core.Bool.{Bool, true, false}
+use mathlib.Core.Option.{Option, none, some}
+use native.Mathlib.Omega.{arith}
+use lib.ListN.{length, length-append, length-take, getD, replicate}
+use lib.Dec.{leb, ltb}
+use borrow.Author.Tests.{leb-true, leb-false}
+use Rattle.frame.specs.Line as line
+use Rattle.frame.specs.Line.{escape-append, escape-short, escape-plain}
+use Rattle.frame.specs.Frame.{Outcome, frame, refused, headOf, escape, body, framed, wire, judge}
+use Rattle.frame.specs.Reader.{State, emptied, read, onward, scan, step, verdict, inner}
+use Rattle.frame.specs.Writer.{minRoom, check}
+use Rattle.frame.specs.Xor.{_⊕_, xorAll}
+use Rattle.frame.specs.XorLaws.{xorAll-append, ⊕-zero}
+use Rattle.frame.specs.WireLaws.{wire-length, wire-short}
+use Rattle.frame.specs.DoubledLaws.{Kind, end, esc, usual, kind, escape-next, isOdd, Remains, oneEnd, oneEsc, Doubled, fewer, all, doubled}
+use Rattle.nodes.specs.Table as table
+use Rattle.nodes.specs.Table.{fieldOf, information, informationSize}
+use Rattle.sessions.specs.Sessions as sessions
+use Rattle.directory.specs.Directory.{directory}
+use Rattle.directory.specs.Lookup as lookup
+use Rattle.feeds.specs.System.{told, serveIf, settled, decided, call}
+use Rattle.rules.specs.declared.Hub.{Hub}
+use Rattle.rules.specs.Hub.{passwordSize, Reply, getNode, removeNodes, virginState, modeSend, request, mayAsk, serve, finishedOn, notice, finishBy, finish, feedRefusal, hub}
+use Rattle.rules.specs.Cases.{either, each-verdict, each-request}
+
+-- ---- frame 0201: node and check byte are not both doubled
+
+confirm-short : (n : ℕ) → length (wire 0x0201 (table.accepted ∷ n ∷ [])) ≤ 10
+unfolding wire framed body escape xorAll _⊕_
+confirm-short n = go (kind n)
+  where
+    go : {b : ℕ} → Kind b → length (wire 0x0201 (table.accepted ∷ b ∷ [])) ≤ 10
+    go end = omega arith
+    go esc = omega arith
+    go {b} (usual e) =
+        let d : List ℕ = table.accepted ∷ b ∷ [] in
+        omega (arith, e, wire-length 0x0201 d, escape-next table.accepted (b ∷ []), escape-short (check 0x0201 d ∷ []))
+
+-- ---- frame 0210: of its data at most 71 bytes are told, and 53 are zero
+
+abbrev toldBytes : List ℕ → ℕ → List ℕ
+toldBytes t n =
+    (n ∷ []) ++ fieldOf t n table.orderField ++ fieldOf t n table.placementField ++ fieldOf t n table.nameField ++ fieldOf t n table.typeField
+    ++ fieldOf t n table.variationField
+
+toldBytes-short : (t : List ℕ) (n : ℕ) → length (toldBytes t n) ≤ 71
+toldBytes-short t n = simp (length-append, length-take) (omega arith)
+
+information-length : (t : List ℕ) (n : ℕ) → length (information t n) ≡ length (toldBytes t n) + 53
+unfolding information
+information-length t n = simp length-append (omega arith)
+
+information-escaped : (t : List ℕ) (n : ℕ) → length (escape (information t n)) ≡ length (escape (toldBytes t n)) + 53
+unfolding information escape
+information-escaped t n = simp (escape-append, length-append) (omega arith)
+
+information-xor : (t : List ℕ) (n : ℕ) → xorAll (information t n) ≡ xorAll (toldBytes t n)
+unfolding information xorAll
+information-xor t n = simp (xorAll-append, ⊕-zero)
+
+-- no byte of the head is doubled
+head-plain : (k : ℕ) → k ≤ informationSize → length (escape (headOf 0x0210 k)) ≡ 4
+unfolding escape
+head-plain k h =
+    rw (escape-next 0 ((k + 3) ∷ 0x02 ∷ 0x10 ∷ []), escape-next (k + 3) (0x02 ∷ 0x10 ∷ []), escape-plain (k + 3) (λ e. omega arith) (λ e. omega arith))
+
+-- nor is the check byte where all bytes told are
+check-plain : {x : ℕ} → Remains true x → length (escape ((xorAll (headOf 0x0210 informationSize) ⊕ x) ∷ [])) ≡ 1
+unfolding escape xorAll _⊕_
+check-plain oneEnd = refl
+check-plain oneEsc = refl
+
+notification-short : (t : List ℕ) (n : ℕ) → length (wire 0x0210 (information t n)) ≤ 202
+unfolding isOdd
+notification-short t n = go (doubled (toldBytes t n)) (leb 71 (length (toldBytes t n))) refl
+  where
+    d : List ℕ
+    d = information t n
+
+    short : length (toldBytes t n) ≤ 71
+    short = toldBytes-short t n
+
+    total : length (wire 0x0210 d) ≡ length (escape (toldBytes t n)) + length (escape (check 0x0210 d ∷ [])) + 59
+    total =
+        omega (arith, wire-length 0x0210 d, head-plain (length d) (omega (arith, information-length t n, short)), information-escaped t n)
+
+    go : Doubled (toldBytes t n) → (u : Bool) → leb 71 (length (toldBytes t n)) ≡ u → length (wire 0x0210 d) ≤ 202
+    go (fewer h) u q = omega (arith, total, short, escape-short (check 0x0210 d ∷ []))
+    go (all m) false q = omega (arith, total, leb-false 71 (length (toldBytes t n)) q, escape-short (toldBytes t n), escape-short (check 0x0210 d ∷ []))
+    go (all m) true q =
+        let k : length (toldBytes t n) ≡ 71 = omega (arith, short, leb-true 71 (length (toldBytes t n)) q) in
+        let one : length (escape (check 0x0210 d ∷ [])) ≡ 1 = rw (information-xor t n, information-length t n, k) (check-plain (subst (λ (i : ℕ). Remains (isOdd i) (xorAll (toldBytes t n))) k m)) in
+        omega (arith, total, escape-short (toldBytes t n))
+
+-- ---- each reply
+
+abbrev Short : Reply → Type 0
+Short r = length (r .reply) ≤ 212
+
+getNode-short : (h : Hub) (t : List ℕ) (n : ℕ) → Short (getNode h t n)
+unfolding getNode
+getNode-short h t n =
+    either Short (table.inUse t n) _ _
+    (omega (arith, length-append (wire 0x0201 (table.accepted ∷ n ∷ [])) (wire 0x0210 (information t n)), confirm-short n, notification-short t n))
+    (omega (arith, wire-short 0x0201 (table.invalidNode ∷ n ∷ [])))
+
+-- all other replies are one frame with at most three data bytes
+frame-short : (c : ℕ) (d : List ℕ) → length d ≤ 3 → length (wire c d) ≤ 212
+frame-short c d h = omega (arith, wire-short c d)
+
+request-short : (h : Hub) (t : List ℕ) (l c : ℕ) (d : List ℕ) → Short (request h t l c d)
+unfolding removeNodes virginState modeSend
+request-short h t l c d =
+    each-request Short h t l c d (λ e. frame-short _ _ (omega arith)) (frame-short _ _ (omega arith)) (getNode-short h t (getD d 0 0))
+    (frame-short _ _ (omega arith)) (frame-short _ _ (omega arith)) (frame-short _ _ (omega arith)) (frame-short _ _ (omega arith))
+    (frame-short _ _ (omega arith)) (frame-short _ _ (omega arith)) (frame-short _ _ (omega arith))
+
+-- whatever is served
+pub longest : (h : Hub) (t : List ℕ) (l : ℕ) (o : Outcome) → length (serve h t l o .reply) ≤ 212
+unfolding serve
+longest h t l (refused n) = frame-short _ _ (omega arith)
+longest h t l (frame c d) =
+    each-verdict Short (lookup.verdict c (length d)) _ _ _ (frame-short _ _ (omega arith)) (frame-short _ _ (omega arith))
+    (either Short (mayAsk (h .logins) l c) _ _ (request-short h t l c d) (frame-short _ _ (omega arith)))
+
+-- ---- the calls that write
+
+-- the length that a feed tells
+pub feed-longest : (h : Hub) (t : List ℕ) (s : State) (l : ℕ) (bytes : List ℕ) (room used : ℕ) (o : Option Outcome) (n : ℕ)
+    → call hub h t s l bytes room .result .answer ≡ told used o n → n ≤ 212
+unfolding call decided settled serveIf
+feed-longest h t s l bytes room used o n e = go (feedRefusal t l room) (read s bytes .outcome) e
+  where
+    go : (r : Option ℕ) (p : Option Outcome) → decided hub h t l s (record { after = read s bytes .after; used = read s bytes .used; outcome = p }) r .result .answer ≡ told used o n → n ≤ 212
+    go (some k) p x = let z : _≡_ {A = ℕ} 0 1 = cc in absurd (omega arith)
+    go none none x = let z : n ≡ 0 = cc in omega arith
+    go none (some q) x = let z : n ≡ length (serve h t l q .reply) = cc in omega (arith, longest h t l q)
+
+-- and finish
+pub finish-longest : (h : Hub) (x room l n : ℕ) → finish h x room .answer ≡ finishedOn l n → n ≤ 212
+unfolding notice
+finish-longest h x room l n e = go (ltb room minRoom) (sessions.finish (h .slots) x) e
+  where
+    go : (t : Bool) (o : Option sessions.Finished) → finishBy t o h x .answer ≡ finishedOn l n → n ≤ 212
+    go true o y = let z : _≡_ {A = ℕ} 0 1 = cc in absurd (omega arith)
+    go false none y = let z : _≡_ {A = ℕ} 0 1 = cc in absurd (omega arith)
+    go false (some f) y = let z : n ≡ length (notice x) = cc in omega (arith, frame-short 0x0304 (x / 256 ∷ x % 256 ∷ []) (omega arith))
+
+-- ---- 212 bytes are sent
+
+-- line 0 is logged in; node C0 is in use, and its other bytes are all C0, as the host may lend them: no call stores a variation above 4
+abbrev asking : Hub
+asking = record { password = replicate passwordSize 0; logins = true ∷ replicate 3 false; slots = replicate sessions.slotCount sessions.closedSlot }
+
+abbrev allEnds : List ℕ
+allEnds = replicate (0xC0 * table.recordSize) 0 ++ (1 ∷ replicate 71 0xC0) ++ replicate (7 * table.recordSize) 0
+
+longest-met : call hub asking allEnds emptied 0 (0xC0 ∷ 0x00 ∷ 0x04 ∷ 0x02 ∷ 0x00 ∷ 0xDB ∷ 0xDC ∷ 0xC6 ∷ 0xC0 ∷ []) minRoom .result .answer ≡ told 9 (some (frame 0x0200 (0xC0 ∷ []))) 212
+unfolding call decided settled serveIf scan onward step verdict line.step line.close inner line.decoded judge serve request getNode table.inUse information wire escape framed body xorAll _⊕_ lookup.verdict lookup.verdictOf lookup.find directory
+longest-met = refl
