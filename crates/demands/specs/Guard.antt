@@ -15,7 +15,7 @@ use Rattle.rules.specs.declared.Hub.{Hub}
 use Rattle.demands.specs.Invariants.{Unchanged}
 use Rattle.demands.specs.Calls.{World, Call, start, enrol, close, finish, feed, after, afterAll, Unprivileged}
 use Rattle.memory.specs.Octets.{same}
-use Rattle.rules.specs.Hub.{Reply, failure, unknownCommand, frameError, notLoggedIn, Password, enter, reply, request, isLoggedIn, serve, hub}
+use Rattle.rules.specs.Hub.{Reply, failure, frameError, notLoggedIn, Password, enter, reply, request, isLoggedIn, serve, hub}
 use Rattle.rules.specs.Cases.{either, each-verdict}
 
 -- said of what serving leaves
@@ -36,7 +36,7 @@ pub serve-guarded : (h : Hub) (t : List ℕ) (l : ℕ) (o : Outcome) → isLogge
 unfolding serve request
 serve-guarded h t l (refused n) e = failure-guarded h t frameError
 serve-guarded h t l (frame c d) e =
-    each-verdict (Guarded h t) (directory.verdict c (length d)) _ _ _ (failure-guarded h t unknownCommand) (failure-guarded h t frameError)
+    each-verdict (Guarded h t) (directory.verdict c (length d)) _ _ (failure-guarded h t)
     (rw e (go (eqb c 0x3000) refl))
   where
     go : (b : Bool) → eqb c 0x3000 ≡ b → Guarded h t (cond b (request h t l c d) (failure h t notLoggedIn))

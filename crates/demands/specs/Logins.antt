@@ -14,7 +14,6 @@ use Rattle.frame.specs.Frame.{Outcome, frame, refused}
 use Rattle.frame.specs.Writer.{minRoom}
 use Rattle.nodes.specs.Table as table
 use Rattle.sessions.specs.Sessions as sessions
-use Rattle.directory.specs.declared.Verdict.the-variants as verdicts
 use Rattle.directory.specs.Directory.{directory}
 use Rattle.directory.specs.Lookup as lookup
 use Rattle.feeds.specs.System as feeds
@@ -43,7 +42,7 @@ request-kept h t l c d e =
     (either (Kept h) (table.inUse t (getD d 0 0)) _ _ refl refl) refl refl refl refl refl refl refl
 
 -- password enter is known with 32 data bytes
-enter-verdict : (n : ℕ) → lookup.verdict 0x3000 n ≡ cond (leb 32 n && leb n 32) verdicts.Fits verdicts.WrongLength
+enter-verdict : (n : ℕ) → lookup.verdict 0x3000 n ≡ cond (leb 32 n && leb n 32) none (some lookup.frameError)
 unfolding lookup.verdict lookup.find lookup.verdictOf directory
 enter-verdict n = refl
 
@@ -76,7 +75,7 @@ enter-logins h t l d = rw (enter-verdict (length d)) (go (eqb (length d) 32) ref
     fits false false = refl
 
     go : (b : Bool) → eqb (length d) 32 ≡ b → (i s : Bool)
-        → rules.byVerdict (cond (leb 32 (length d) && leb (length d) 32) verdicts.Fits verdicts.WrongLength) (rules.failure h t rules.unknownCommand) (rules.failure h t rules.frameError)
+        → rules.byVerdict (cond (leb 32 (length d) && leb (length d) 32) none (some lookup.frameError)) (rules.failure h t)
         (cond (i || true) (rules.reply (entered s .hub) t 0x3001 (entered s .status ∷ [])) (rules.failure h t rules.notLoggedIn)) .hub .logins
         ≡ cond (b && s) (set (h .logins) l true) (h .logins)
     go true e i s =
@@ -93,7 +92,7 @@ serve-logins h t l (frame c d) = go (eqb c 0x3000) refl
     go : (b : Bool) → eqb c 0x3000 ≡ b
         → rules.serve h t l (frame c d) .hub .logins ≡ cond (b && (eqb (length d) rules.passwordSize && same d (h .password))) (set (h .logins) l true) (h .logins)
     go true e = rw (eqb-true c 0x3000 e) (enter-logins h t l d)
-    go false e = each-verdict (Kept h) (lookup.verdict c (length d)) _ _ _ refl refl (either (Kept h) (rules.mayAsk (h .logins) l c) _ _ (request-kept h t l c d e) refl)
+    go false e = each-verdict (Kept h) (lookup.verdict c (length d)) _ _ (λ x. refl) (either (Kept h) (rules.mayAsk (h .logins) l c) _ _ (request-kept h t l c d e) refl)
 
 -- ---- one feed
 

@@ -57,7 +57,7 @@ module _ (n : ℕ) where
   pub serve-one : (h : Hub) (t : List ℕ) (l : ℕ) (o : Outcome) → One h → One (serve h t l o .hub)
   unfolding serve
   serve-one h t l (refused x) p = p
-  serve-one h t l (frame c d) p = each-verdict Kept (directory.verdict c (length d)) _ _ _ p p (either Kept (mayAsk (h .logins) l c) _ _ (request-one h t l c d p) p)
+  serve-one h t l (frame c d) p = each-verdict Kept (directory.verdict c (length d)) _ _ (λ e. p) (either Kept (mayAsk (h .logins) l c) _ _ (request-one h t l c d p) p)
 
   feed-one : (w : World) (e : feeds.Entry) → One (w .hub) → One (feeds.feed hub w e .0 .hub)
   unfolding feeds.settled feeds.serveIf feeds.returned

@@ -3,15 +3,14 @@ use Prim.Native.Nat.{ℕ, _≤_, _<_}
 use mathlib.Core.Path.{_≡_, refl, sym, _∙_}
 use mathlib.Core.Logic.{_↔_}
 use mathlib.Core.Bool.{Bool, true, false, cond, _&&_}
-use mathlib.Core.Option.{Option, none, some, Option·some-injective}
+use mathlib.Core.Option.{Option, none, some, Option·none-ne-some, Option·some-injective}
 use native.Mathlib.Omega.{arith}
 use lib.ListN.{length}
 use lib.Dec.{T, leb}
 use borrow.Author.Tests.{leb-true, le-leb}
 use Rattle.directory.specs.declared.Entry.{Entry}
-use Rattle.directory.specs.declared.Verdict.the-variants.{Unknown, WrongLength, Fits}
 use Rattle.directory.specs.Directory.{count, entry, directory}
-use Rattle.directory.specs.Lookup.{find, inRange, verdictOf, verdict, Stands, Allowed}
+use Rattle.directory.specs.Lookup.{find, inRange, unknownCommand, frameError, verdictOf, verdict, Stands, Allowed}
 use Rattle.directory.specs.LookupLaws.{find-there, ascending-found, ascending-once}
 use Rattle.directory.specs.Rule.{ruled, Sound, Ascending}
 use Rattle.directory.specs.RuleLaws.{ruled-sound, ruled-ascending}
@@ -50,26 +49,26 @@ found-exactly command e = (
 
 -- ---- verdicts
 
-pub verdict-found : (command len : ℕ) (e : Entry) → find command directory ≡ some e → verdict command len ≡ cond (inRange e len) Fits WrongLength
+pub verdict-found : (command len : ℕ) (e : Entry) → find command directory ≡ some e → verdict command len ≡ cond (inRange e len) none (some frameError)
 unfolding verdict verdictOf
 verdict-found command len e h = rw h
 
-pub unknown-exactly : (command len : ℕ) → (verdict command len ≡ Unknown) ↔ ((e : Entry) → Stands e → e .number ≡ command → ⊥)
+pub unknown-exactly : (command len : ℕ) → (verdict command len ≡ some unknownCommand) ↔ ((e : Entry) → Stands e → e .number ≡ command → ⊥)
 unfolding verdict verdictOf
 unknown-exactly command len = (
   λ u e s n. never (inRange e len) (sym (verdict-found command len e (found-exactly command e .1 (s, n))) ∙ u),
   λ alone. go alone (find command directory) refl,
 )
   where
-    never : (t : Bool) → cond t Fits WrongLength ≡ Unknown → ⊥
-    never true h = let z : _≡_ {A = ℕ} 0 1 = cc in omega arith
-    never false h = let z : _≡_ {A = ℕ} 0 1 = cc in omega arith
+    never : (t : Bool) → cond t none (some frameError) ≡ some unknownCommand → ⊥
+    never true h = Option·none-ne-some unknownCommand h
+    never false h = let z = Option·some-injective frameError unknownCommand h in omega arith
 
-    go : ((e : Entry) → Stands e → e .number ≡ command → ⊥) → (o : Option Entry) → find command directory ≡ o → verdictOf o len ≡ Unknown
+    go : ((e : Entry) → Stands e → e .number ≡ command → ⊥) → (o : Option Entry) → find command directory ≡ o → verdictOf o len ≡ some unknownCommand
     go alone none h = refl
     go alone (some e) h = let s = found-exactly command e .0 h in absurd (alone e (s .0) (s .1))
 
-pub fits-exactly : (command len : ℕ) → (verdict command len ≡ Fits) ↔ Allowed command len
+pub fits-exactly : (command len : ℕ) → (verdict command len ≡ none) ↔ Allowed command len
 unfolding verdict verdictOf
 fits-exactly command len = (
   λ h. go (find command directory) refl h,
@@ -79,24 +78,24 @@ fits-exactly command len = (
 )
   where
     within : (e : Entry) (t u : Bool) → leb (e .least) len ≡ t → leb len (e .greatest) ≡ u → find command directory ≡ some e
-        → cond (t && u) Fits WrongLength ≡ Fits → Allowed command len
+        → cond (t && u) none (some frameError) ≡ none → Allowed command len
     within e true true p q h f =
         let s = found-exactly command e .0 h in
         record { entry = e; stands = s .0; number = s .1; least = leb-true (e .least) len p; greatest = leb-true len (e .greatest) q }
-    within e true false p q h f = let z : _≡_ {A = ℕ} 0 1 = cc in absurd (omega arith)
-    within e false u p q h f = let z : _≡_ {A = ℕ} 0 1 = cc in absurd (omega arith)
+    within e true false p q h f = absurd (Option·none-ne-some frameError (sym f))
+    within e false u p q h f = absurd (Option·none-ne-some frameError (sym f))
 
-    go : (o : Option Entry) → find command directory ≡ o → verdictOf o len ≡ Fits → Allowed command len
-    go none h f = let z : _≡_ {A = ℕ} 0 1 = cc in absurd (omega arith)
+    go : (o : Option Entry) → find command directory ≡ o → verdictOf o len ≡ none → Allowed command len
+    go none h f = absurd (Option·none-ne-some unknownCommand (sym f))
     go (some e) h f = within e (leb (e .least) len) (leb len (e .greatest)) refl refl h f
 
 -- data that fit have a length in the range of the entry found
-fits-range : (command len : ℕ) (e : Entry) → find command directory ≡ some e → verdict command len ≡ Fits → (e .least ≤ len) × (len ≤ e .greatest)
+fits-range : (command len : ℕ) (e : Entry) → find command directory ≡ some e → verdict command len ≡ none → (e .least ≤ len) × (len ≤ e .greatest)
 fits-range command len e h f =
     let a = fits-exactly command len .0 f in
     let same : a .entry ≡ e = Option·some-injective (a .entry) e (sym (found-exactly command (a .entry) .1 (a .stands, a .number)) ∙ h) in
     (rw same at (a .least), rw same at (a .greatest))
 
 -- where the entry names one length, data that fit have that length
-pub fits-fixed : (command size len : ℕ) → find command directory ≡ some (entry command size size) → verdict command len ≡ Fits → len ≡ size
+pub fits-fixed : (command size len : ℕ) → find command directory ≡ some (entry command size size) → verdict command len ≡ none → len ≡ size
 fits-fixed command size len h f = let r = fits-range command len (entry command size size) h f in omega (arith, r .0, r .1)

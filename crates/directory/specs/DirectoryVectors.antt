@@ -1,9 +1,8 @@
 -- The commands that document 01 names, and lengths at the edges of a range.
 use mathlib.Core.Path.{_≡_, refl}
 use mathlib.Core.List.{List, [], _∷_, map}
-use mathlib.Core.Option.{some}
+use mathlib.Core.Option.{none, some}
 use Rattle.directory.specs.declared.Entry.{Entry}
-use Rattle.directory.specs.declared.Verdict.the-variants.{Unknown, WrongLength, Fits}
 use Rattle.directory.specs.Directory.{entry, directory}
 use Rattle.directory.specs.Lookup.{find, verdictOf, verdict}
 
@@ -33,10 +32,10 @@ edges :
     ∷ verdict 0x0411 70 ∷ verdict 0x0411 71 ∷ verdict 0x0411 247 ∷ verdict 0x0411 248
     ∷ verdict 0x020A 2 ∷ verdict 0x020B 2
     ∷ []
-    ≡ Fits ∷ Fits
-    ∷ WrongLength ∷ Fits ∷ Fits ∷ WrongLength
-    ∷ WrongLength ∷ Fits ∷ Fits ∷ WrongLength
-    ∷ Unknown ∷ Unknown
+    ≡ none ∷ none
+    ∷ some 2 ∷ none ∷ none ∷ some 2
+    ∷ some 2 ∷ none ∷ none ∷ some 2
+    ∷ some 1 ∷ some 1
     ∷ []
 unfolding verdict verdictOf find directory
 edges = refl

@@ -1,9 +1,7 @@
 pub mod Directory
 pub mod Lookup
 pub mod Rule
-pub mod Packed
 pub mod RuleLaws
 pub mod LookupLaws
 pub mod DirectoryLaws
 pub mod DirectoryVectors
-pub mod PackedLaws

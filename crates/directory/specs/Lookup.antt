@@ -22,13 +22,26 @@ find n (e ∷ es) = cond (eqb (e .number) n) (some e) (find n es)
 abbrev pub inRange : Entry → ℕ → Bool
 inRange e len = leb (e .least) len && leb len (e .greatest)
 
-unfoldable pub verdictOf : Option Entry → ℕ → Verdict
-verdictOf none len = Unknown
-verdictOf (some e) len = cond (inRange e len) Fits WrongLength
+-- the bytes of the error frame that a command can fail by here
+abbrev pub unknownCommand : ℕ
+unknownCommand = 1
 
--- what is said of a command with data of a length
-unfoldable pub verdict : ℕ → ℕ → Verdict
+abbrev pub frameError : ℕ
+frameError = 2
+
+unfoldable pub verdictOf : Option Entry → ℕ → Option ℕ
+verdictOf none len = some unknownCommand
+verdictOf (some e) len = cond (inRange e len) none (some frameError)
+
+-- the error of a command with data of a length, if it is one: command unknown, 1; data length outside the directory's range, 2
+unfoldable pub verdict : ℕ → ℕ → Option ℕ
 verdict command len = verdictOf (find command directory) len
+
+-- the error that an answer tells
+abbrev pub errorOf : Verdict → Option ℕ
+errorOf Unknown = some unknownCommand
+errorOf WrongLength = some frameError
+errorOf Fits = none
 
 -- the entry that an answer tells
 abbrev pub told : Found → Option Entry

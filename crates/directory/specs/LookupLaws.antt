@@ -1,15 +1,16 @@
 -- Laws of the lookup, over any list of entries.
 use Prim.Native.Nat.{ℕ, zero, suc, _<_, _≤_}
 use mathlib.Core.Path.{_≡_, refl, ap}
-use mathlib.Core.List.{List, [], _∷_}
+use mathlib.Core.List.{List, [], _∷_, map}
 use mathlib.Core.Bool.{Bool, true, false, cond}
 use mathlib.Core.Option.{none, some, Option·none-ne-some, Option·some-injective}
 use native.Mathlib.Nat.{le-of-suc-le-suc, not-suc-le-zero}
 use native.Mathlib.Omega.{arith}
-use lib.ListN.{length, drop, getElem?, drop-of-length-le}
+use lib.ListN.{length, drop, getD, getElem?, drop-of-length-le}
 use lib.Dec.{ltb, eqb}
 use borrow.Author.Tests.{ltb-true, ltb-false, eqb-true, eq-eqb, ne-eqb}
 use Rattle.directory.specs.declared.Entry.{Entry}
+use Rattle.directory.specs.Directory.{entry}
 use Rattle.directory.specs.Lookup.{find}
 use Rattle.directory.specs.Rule.{Ascending}
 
@@ -24,6 +25,13 @@ pub getElem?-none : (es : List Entry) (k : ℕ) → length es ≤ k → getElem?
 getElem?-none [] k h = refl
 getElem?-none (x ∷ es) zero h = absurd (not-suc-le-zero h)
 getElem?-none (x ∷ es) (suc k) h = getElem?-none es k (le-of-suc-le-suc h)
+
+-- an entry is what stands at its place among the numbers, the least and the greatest lengths
+pub entry-there : (es : List Entry) (k : ℕ) → k < length es
+    → getElem? es k ≡ some (entry (getD (map (λ (e : Entry). e .number) es) k 0) (getD (map (λ (e : Entry). e .least) es) k 0) (getD (map (λ (e : Entry). e .greatest) es) k 0))
+entry-there [] k h = absurd (not-suc-le-zero h)
+entry-there (x ∷ es) zero h = refl
+entry-there (x ∷ es) (suc k) h = entry-there es k (le-of-suc-le-suc h)
 
 -- what stands from a place on
 drop-getElem? : (es : List Entry) (k : ℕ) (e : Entry) → getElem? es k ≡ some e → drop k es ≡ e ∷ drop (suc k) es

@@ -1,9 +1,10 @@
 // The command directory: which commands are known, and how many data bytes each may have (document 01, "The command directory").
 // Its entries are specs/Directory.antt; what a call says of a command is the definition's, specs/Lookup.antt.
 // It stands on nothing.
+mod entries;
 mod lookup;
 
-pub use lookup::COUNT;
+pub use entries::COUNT;
 pub use lookup::entry_at;
 pub use lookup::judge;
 
@@ -20,7 +21,7 @@ pub enum Found {
     Nothing,
 }
 
-// What is to be said of a command with so many data bytes.
+// What is to be said of a command with so many data bytes: error 1, error 2, or none.
 pub enum Verdict {
     Unknown,
     WrongLength,

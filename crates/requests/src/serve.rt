@@ -3,12 +3,12 @@
 ghost use Prim.Native.Nat.{_+_, _≤_, _<_};
 ghost use mathlib.Core.Path.{_≡_};
 ghost use mathlib.Core.List.{[], _∷_};
+ghost use mathlib.Core.Option.{none};
 ghost use lib.ListN.{length, drop, getD};
 ghost use Rattle.frame.specs.Frame.{frame, wire};
 ghost use Rattle.frame.specs.Writer.{minRoom};
 ghost use Rattle.nodes.specs.Table.{tableSize, setName, setOrderAndPlacement, setVariation};
 ghost use Rattle.sessions.specs.Sessions.{closeAll, modeSendSize};
-ghost use Rattle.directory.specs.declared.Verdict.the-variants.{Fits};
 ghost use Rattle.directory.specs.Lookup.{verdict};
 ghost use Rattle.rules.specs.Hub.{lineCount, passwordSize, enter, changed, getNode, nodeReply, removeNodes, virginState, modeSend, request, mayAsk, serve};
 ghost use Rattle.requests.specs.Answers.{Serves, Answered};
@@ -78,7 +78,7 @@ fn request(
     command: u16,
     payload: &[u8],
 ) -> Served
-    requires { ⌜ (length (now table) ≡ tableSize) × (minRoom ≤ length (now room)) × (line < lineCount) × (verdict command (length (now payload)) ≡ Fits) ⌝ }
+    requires { ⌜ (length (now table) ≡ tableSize) × (minRoom ≤ length (now room)) × (line < lineCount) × (verdict command (length (now payload)) ≡ none) ⌝ }
     ensures { λ r. ⌜ Serves (request hub (now (table .entry)) line command (now (payload .entry))) (now (room .entry)) r (now (table .exit)) (now (room .exit)) ⌝ }
 {
     match command {

@@ -3,20 +3,18 @@ use Prim.Native.Nat.{ℕ}
 use mathlib.Core.Path.{_≡_}
 use mathlib.Core.List.{List, [], _∷_}
 use mathlib.Core.Bool.{true}
+use mathlib.Core.Option.{Option, none, some}
 use lib.ListN.{drop, getD}
 use lib.Dec.{eqb}
 use Rattle.nodes.specs.Cases.{either-by}
 use Rattle.nodes.specs.Table.{setVariation, setName, setOrderAndPlacement}
-use Rattle.directory.specs.declared.Verdict.{Verdict}
-use Rattle.directory.specs.declared.Verdict.the-variants as verdicts
 use Rattle.rules.specs.declared.Hub.{Hub}
 use Rattle.rules.specs.Hub.{Reply, unknownCommand, failure, byVerdict, enter, changed, passwordEnter, reply, nodeReply, getNode, removeNodes, virginState, modeSend, request}
 pub use Rattle.nodes.specs.Cases.{either}
 
-pub each-verdict : (P : Reply → Type 0) (v : Verdict) (a b x : Reply) → P a → P b → P x → P (byVerdict v a b x)
-each-verdict P verdicts.Unknown a b x p q r = p
-each-verdict P verdicts.WrongLength a b x p q r = q
-each-verdict P verdicts.Fits a b x p q r = r
+pub each-verdict : (P : Reply → Type 0) (v : Option ℕ) (f : ℕ → Reply) (x : Reply) → ((e : ℕ) → P (f e)) → P x → P (byVerdict v f x)
+each-verdict P (some e) f x p q = p e
+each-verdict P none f x p q = q
 
 -- the requests served, in the order of their definition, and one that is not served
 pub each-request : (P : Reply → Type 0) (h : Hub) (t : List ℕ) (l c : ℕ) (d : List ℕ)

@@ -81,7 +81,7 @@ pub serve-frames : (h : Hub) (t : List ℕ) (l : ℕ) (o : Outcome) → length t
 unfolding serve
 serve-frames h t l (refused n) e = one-frame 0 _ (omega arith)
 serve-frames h t l (frame c d) e =
-    each-verdict Replies (directory.verdict c (length d)) _ _ _ (one-frame 0 _ (omega arith)) (one-frame 0 _ (omega arith))
+    each-verdict Replies (directory.verdict c (length d)) _ _ (λ e. one-frame 0 _ (omega arith))
     (either Replies (mayAsk (h .logins) l c) _ _ (request-frames h t l c d e) (one-frame 0 _ (omega arith)))
 
 -- and what finish writes

@@ -12,9 +12,8 @@ use Rattle.frame.specs.Writer.{minRoom}
 use Rattle.nodes.specs.Table as table
 use Rattle.sessions.specs.Sessions as sessions
 use Rattle.sessions.specs.declared.Slot.{Slot}
-use Rattle.directory.specs.declared.Verdict.{Verdict}
-use Rattle.directory.specs.declared.Verdict.the-variants as verdicts
 use Rattle.directory.specs.Lookup as directory
+pub use Rattle.directory.specs.Lookup.{unknownCommand, frameError}
 use Rattle.feeds.specs.System.{Served, System}
 use Rattle.rules.specs.declared.Hub.{Hub}
 
@@ -65,12 +64,6 @@ Reply = Served Hub (List ℕ)
 abbrev pub errorReply : ℕ → List ℕ
 errorReply e = wire 0x0000 (e ∷ [])
 
-abbrev pub unknownCommand : ℕ
-unknownCommand = 1
-
-abbrev pub frameError : ℕ
-frameError = 2
-
 abbrev pub notLoggedIn : ℕ
 notLoggedIn = 12
 
@@ -78,11 +71,10 @@ notLoggedIn = 12
 abbrev pub failure : Hub → List ℕ → ℕ → Reply
 failure h t e = record { hub = h; table = t; reply = errorReply e }
 
--- what a verdict of the directory chooses
-abbrev pub byVerdict : Verdict → Reply → Reply → Reply → Reply
-byVerdict verdicts.Unknown a b x = a
-byVerdict verdicts.WrongLength a b x = b
-byVerdict verdicts.Fits a b x = x
+-- the failure that the directory gives an error for, or else what follows
+abbrev pub byVerdict : Option ℕ → (ℕ → Reply) → Reply → Reply
+byVerdict (some e) f x = f e
+byVerdict none f x = x
 
 -- ---- password enter and change
 
@@ -185,9 +177,7 @@ mayAsk logins l c = isListed logins l || eqb c passwordEnter
 unfoldable pub serve : Hub → List ℕ → ℕ → Outcome → Reply
 serve h t l (refused n) = failure h t frameError
 serve h t l (frame c d) =
-    byVerdict (directory.verdict c (length d))
-    (failure h t unknownCommand)
-    (failure h t frameError)
+    byVerdict (directory.verdict c (length d)) (failure h t)
     (cond (mayAsk (h .logins) l c) (request h t l c d) (failure h t notLoggedIn))
 
 -- ---- host calls

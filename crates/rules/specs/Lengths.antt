@@ -29,4 +29,4 @@ pub serve-kept : (h : Hub) (t : List ℕ) (l : ℕ) (o : Outcome) → length (se
 unfolding serve
 serve-kept h t l (refused n) = refl
 serve-kept h t l (frame c d) =
-    each-verdict (Kept t) (directory.verdict c (length d)) _ _ _ refl refl (either (Kept t) (mayAsk (h .logins) l c) _ _ (request-kept h t l c d) refl)
+    each-verdict (Kept t) (directory.verdict c (length d)) _ _ (λ e. refl) (either (Kept t) (mayAsk (h .logins) l c) _ _ (request-kept h t l c d) refl)

@@ -124,7 +124,7 @@ pub longest : (h : Hub) (t : List ℕ) (l : ℕ) (o : Outcome) → length (serve
 unfolding serve
 longest h t l (refused n) = frame-short _ _ (omega arith)
 longest h t l (frame c d) =
-    each-verdict Short (lookup.verdict c (length d)) _ _ _ (frame-short _ _ (omega arith)) (frame-short _ _ (omega arith))
+    each-verdict Short (lookup.verdict c (length d)) _ _ (λ e. frame-short _ _ (omega arith))
     (either Short (mayAsk (h .logins) l c) _ _ (request-short h t l c d) (frame-short _ _ (omega arith)))
 
 -- ---- the calls that write

@@ -1,15 +1,15 @@
 use mathlib.Core.Path.{_≡_, sym, ap, _∙_}
 use mathlib.Core.Bool.{cond}
+use mathlib.Core.Option.{none, some}
 use borrow.Author.Needs.{needs}
 use borrow.Author.Tests.{le-leb, lt-leb}
-use Rattle.directory.specs.declared.Verdict.the-variants.{Fits, WrongLength}
-use Rattle.directory.specs.Lookup.{inRange, verdictOf, verdict, told}
+use Rattle.directory.specs.Lookup.{inRange, frameError, verdictOf, verdict, told}
 use Rattle.directory.specs.DirectoryLaws.{verdict-found}
 use Rattle.directory.proofs.lookup.judge.Statement.{statement}
 use Rattle.directory.proofs.lookup.judge.Tie as tie
 
 -- the entry at hand is the one that is found, and its range decides
-judged : (c : tie.After-entry) → verdict (c .before .before .before .args .command) (c .before .before .before .args .len) ≡ cond (inRange (c .entry .given .0 .0) (c .before .before .before .args .len)) Fits WrongLength
+judged : (c : tie.After-entry) → verdict (c .before .before .before .args .command) (c .before .before .before .args .len) ≡ cond (inRange (c .entry .given .0 .0) (c .before .before .before .args .len)) none (some frameError)
 judged c = verdict-found _ _ (c .entry .given .0 .0) (sym (c .before .before .find .ensures) ∙ ap told (c .entry .given .1))
 
 find-requires : tie.Need-find-requires

@@ -1,24 +1,27 @@
 use native.Mathlib.Omega.{arith}
-use borrow.Author.Needs.{needs}
 use Rattle.directory.specs.Directory.{directory}
+use Rattle.directory.specs.LookupLaws.{entry-there}
 use Rattle.directory.specs.DirectoryLaws.{directory-count}
-use Rattle.directory.specs.PackedLaws.{read-there}
 use Rattle.directory.proofs.lookup.read.Statement.{statement}
 use Rattle.directory.proofs.lookup.read.Tie as tie
 
-mul-entry-of : tie.Need-mul-entry-of
-mul-entry-of c = omega (arith, directory-count)
+mul-number : tie.Need-mul-number
+mul-number c = omega (arith, directory-count)
 
-array-read-entry-of : tie.Need-array-read-entry-of
-array-read-entry-of c = omega (arith, directory-count)
+array-read-number : tie.Need-array-read-number
+array-read-number c = omega (arith, directory-count)
 
-entry-of-requires : tie.Need-entry-of-requires
-entry-of-requires c κs = search needs
+array-read-least : tie.Need-array-read-least
+array-read-least c = omega (arith, directory-count)
 
--- the constant is the directory, packed: computed
+array-read-greatest : tie.Need-array-read-greatest
+array-read-greatest c = omega (arith, directory-count)
+
+-- the constants are the directory's numbers, least and greatest lengths: computed
 returns : tie.Need-returns
 unfolding directory
-returns c = rw (c .entry-of .ensures) (read-there (c .before .args .place) (c .before .pre))
+returns c = entry-there directory (c .args .place) (c .pre)
 
 pub read-spec : {M : Type 1} → statement M
-read-spec = tie.close (tie.spec mul-entry-of array-read-entry-of entry-of-requires returns)
+read-spec =
+    tie.close (tie.spec mul-number array-read-number array-read-least array-read-greatest returns)
