@@ -17,7 +17,7 @@ use Rattle.frame.specs.declared.FrameOutcome.{FrameOutcome}
 use Rattle.frame.specs.declared.FrameOutcome.the-variants as given
 use Rattle.frame.specs.Frame.{refusal}
 use Rattle.frame.specs.Reader.{verdict}
-use Rattle.frame.specs.Answers.{told, Within}
+use Rattle.frame.specs.Answers.{told, Within, Whole}
 use Rattle.frame.specs.View.{Part}
 
 -- `cause_of`: a fault of the line reader, as a cause of refusal
@@ -34,6 +34,7 @@ outcomeOf (judged.Refused r) = given.Refused r
 pub record Judging (bs : List ℕ) (g : Got) (r : FrameOutcome) : Type 0 where
   pub told : told r bs ≡ verdict (packetOf g bs)
   pub within : Within r
+  pub whole : Whole r bs
   pub full : length bs ≡ limit
 
 -- `command_of`: the command number that is shown

@@ -2,7 +2,9 @@
 use Prim.Native.Nat.{ℕ, _+_, _≤_}
 use mathlib.Core.Path.{_≡_}
 use mathlib.Core.List.{List, []}
+use mathlib.Core.Bool.{cond}
 use lib.ListN.{length, take, drop}
+use lib.Dec.{eqb}
 use denote.Ref.{RefT}
 use Rattle.frame.specs.declared.view.View.{View}
 use Rattle.frame.specs.Frame.{Outcome, frame, refused, head}
@@ -37,3 +39,7 @@ pub record Shows (o : Outcome) (x : RefT (List ℕ)) (v : View) : Type 0 where
   pub told : v .«data» .now ≡ shownData o
   pub refusal : v .refusal ≡ shownRefusal o
   pub part : Part x (shownStart o) (length (shownData o)) (v .«data»)
+
+-- the outcome that a view tells: the refusal that it shows, or, if that is 0, the frame
+abbrev pub outcomeIn : View → Outcome
+outcomeIn v = cond (eqb (v .refusal) 0) (frame (v .command) (v .«data» .now)) (refused (v .refusal))
