@@ -3,7 +3,6 @@ use Prim.Native.Nat.{ℕ, _+_, _*_, _≤_}
 use mathlib.Core.Path.{_≡_, refl, ap, _∙_}
 use mathlib.Core.List.{List, [], _∷_, _++_, append-assoc}
 use mathlib.Core.Bool.{Bool, true, false, cond}
-use mathlib.Core.Option.{none, some}
 use native.Mathlib.Omega.{arith}
 use lib.ListN.{length, drop, length-append}
 use lib.Dec.{ltb}
@@ -11,9 +10,7 @@ use Rattle.line.specs.Wire.{END, escape}
 use Rattle.line.specs.WireLaws.{escape-append, escape-short}
 use Rattle.frame.specs.XorLaws.{xorAll-append}
 use Rattle.frame.specs.Frame.{maxData, headOf, body, framed, wire}
-use Rattle.frame.specs.declared.Written.{Written}
-use Rattle.frame.specs.declared.Written.the-variants as written
-use Rattle.frame.specs.Writer.{minRoom, refusalOf, Wire, write, check}
+use Rattle.frame.specs.Writer.{minRoom, shortRoom, longData, upTo, refused, Wire, write, check}
 
 framed-parts : (c : ℕ) (d : List ℕ) → framed c d ≡ headOf c (length d) ++ d ++ check c d ∷ []
 unfolding framed body
@@ -39,13 +36,14 @@ pub wire-fits : (c : ℕ) (d : List ℕ) → length d ≤ maxData → length (wi
 wire-fits c d h = omega (arith, wire-short c d)
 
 -- writing is refused by document 01's numbers: 9 for room below 512 bytes, then 10 for data above 250
-pub write-refusal : (room : List ℕ) (c : ℕ) (d : List ℕ) → refusalOf (write room c d .answer) ≡ cond (ltb (length room) 512) (some 9) (cond (ltb 250 (length d)) (some 10) none)
+pub write-refusal : (room : List ℕ) (c : ℕ) (d : List ℕ)
+    → write room c d .answer ≡ cond (ltb (length room) 512) (refused 9) (cond (ltb 250 (length d)) (refused 10) (upTo (length (wire c d))))
 unfolding write
 write-refusal room c d = go (ltb (length room) minRoom) (ltb maxData (length d))
   where
     go : (a b : Bool)
-        → refusalOf (cond {A = Wire Written} a (record { answer = written.ShortRoom; room = room }) (cond b (record { answer = written.LongData; room = room }) (record { answer = written.Length (length (wire c d)); room = wire c d ++ drop (length (wire c d)) room })) .answer)
-        ≡ cond a (some 9) (cond b (some 10) none)
+        → cond {A = Wire} a (record { answer = refused shortRoom; room = room }) (cond b (record { answer = refused longData; room = room }) (record { answer = upTo (length (wire c d)); room = wire c d ++ drop (length (wire c d)) room })) .answer
+        ≡ cond a (refused 9) (cond b (refused 10) (upTo (length (wire c d))))
     go true b = refl
     go false true = refl
     go false false = refl
