@@ -10,11 +10,14 @@ use lib.ListN.{length, take, drop, getD, set, replicate, length-map}
 use lib.Seq.{set-getD, take-at}
 use lib.Dec.{ltb, eqb}
 use borrow.Author.Tests.{eqb-true}
-use Rattle.frame.specs.Writer.{minRoom}
+use Rattle.frame.specs.declared.Written.{Written}
+use Rattle.frame.specs.Writer as writer
+use Rattle.frame.specs.Writer.{minRoom, Writing, upTo, noFit, write, Writes}
+use Rattle.frame.specs.WireLaws.{write-refusal, write-untouched}
 use Rattle.nodes.specs.Table.{tableSize}
 use Rattle.line.specs.declared.Reading.{Reading}
 use Rattle.frame.specs.Frame as packet
-use Rattle.frame.specs.Frame.{Outcome}
+use Rattle.frame.specs.Frame.{Outcome, maxData, wire}
 use Rattle.frame.specs.Reader.{also, outcomes, final, State, emptied, emptiedReading, step, read, taken}
 use Rattle.frame.specs.ReaderLaws.{scan-tells, used-all}
 use Rattle.feeds.specs.System.{Entry, Answer, refused, told, Result, Called, serveIf, settled, decided, call, results, endState, errorReply}
@@ -49,7 +52,7 @@ use Rattle.demands.specs.OneHolder.{free, one-holder}
 use Rattle.demands.specs.Feeds.{above-none}
 use Rattle.demands.specs.FeedListLaws.{list-kept}
 use Rattle.demands.specs.ErrorReply.{only-error-reply}
-use Rattle.demands.specs.Frames.{ReadExactly, WrittenExactly, read-exactly, read-frames}
+use Rattle.demands.specs.Frames.{ReadExactly, WrittenExactly, read-exactly, writer-wrote, read-frames}
 
 -- ---- Demand 1
 
@@ -81,6 +84,15 @@ pub record Answered (m : Memory) (g : Lent) (o : Got hub) (v : Memory) (u : ℕ)
   pub count : k ≡ length (r .reply)
   pub reply : o .room ≡ r .reply ++ drop k (g .room)
 
+-- the refusal that applies to writing, if any, and the one that it tells
+abbrev pub writeRefusal : ℕ → ℕ → Option ℕ
+writeRefusal room len = refuseIf (ltb room minRoom) writer.shortRoom (refuseIf (ltb maxData len) writer.longData none)
+
+abbrev pub writingRefusal : Writing → Option ℕ
+writingRefusal (upTo n) = none
+writingRefusal (writer.refused n) = some n
+writingRefusal noFit = none
+
 pub record Demand1 : Type 0 where
   -- "Any bytes, numbers and lent lengths may come.": every list of calls can be made, whatever is kept at its start
   pub any : (m : Memory) (ss : List Step) → (os : List Return) × (e : Memory) × Steps m ss os e
@@ -88,6 +100,9 @@ pub record Demand1 : Type 0 where
   pub exactly : {m v : Memory} {s : Step} {o : Return} → Made m s o v → refusalTold o ≡ refusal m s
   -- "A refused call changes neither the hub nor lent memory;"
   pub untouched : {m v : Memory} {s : Step} {o : Return} → Made m s o v → (n : ℕ) → refusalTold o ≡ some n → Untouched m s o v
+  -- the frame writer, which keeps nothing: refused exactly if its room or its data's length is, and then it leaves the room as it was lent
+  pub write-exactly : (room : List ℕ) (c : ℕ) (d : List ℕ) (r : Written) (left : List ℕ) → Writes (write room c d) (writer.told r) left → writingRefusal (writer.told r) ≡ writeRefusal (length room) (length d)
+  pub write-untouched : (room : List ℕ) (c : ℕ) (d : List ℕ) (r : Written) (left : List ℕ) → Writes (write room c d) (writer.told r) left → (n : ℕ) → writingRefusal (writer.told r) ≡ some n → left ≡ room
   -- so a list without its refused calls is made as well: every other gives the same, and the end is the same
   pub without : {m e : Memory} {ss : List Step} {os : List Return} → Steps m ss os e
       → Steps m (unmarked (map isRefused os) ss) (unmarked (map isRefused os) os) e
@@ -253,8 +268,25 @@ made-used-up : {m v : Memory} {g : Lent} {o : Got hub} → Made m (feed g) (fed 
 unfolding serveIf
 made-used-up {m} {g = g} x u n k e = rw (only-error-reply (m .hub) (m .table) (g .line) n) at (made-served x u (some (packet.refused n)) k e)
 
+-- the writer's refusals, by the laws of its definition
+writer-exactly : (room : List ℕ) (c : ℕ) (d : List ℕ) (r : Written) (left : List ℕ) → Writes (write room c d) (writer.told r) left → writingRefusal (writer.told r) ≡ writeRefusal (length room) (length d)
+writer-exactly room c d r left x = ap writingRefusal (x .answer ∙ write-refusal room c d) ∙ go (ltb (length room) minRoom) (ltb maxData (length d))
+  where
+    go : (a b : Bool) → writingRefusal (cond a (writer.refused 9) (cond b (writer.refused 10) (upTo (length (wire c d))))) ≡ refuseIf a writer.shortRoom (refuseIf b writer.longData none)
+    go true b = refl
+    go false true = refl
+    go false false = refl
+
+writer-untouched : (room : List ℕ) (c : ℕ) (d : List ℕ) (r : Written) (left : List ℕ) → Writes (write room c d) (writer.told r) left → (n : ℕ) → writingRefusal (writer.told r) ≡ some n → left ≡ room
+writer-untouched room c d r left x n = go (writer.told r) refl
+  where
+    go : (w : Writing) → writer.told r ≡ w → writingRefusal w ≡ some n → left ≡ room
+    go (upTo k) q e = absurd (Option·none-ne-some n e)
+    go (writer.refused k) q e = x .room ∙ write-untouched room c d k (sym (x .answer) ∙ q)
+    go noFit q e = absurd (Option·none-ne-some n e)
+
 pub demand-1 : Demand1
-demand-1 = record { any = steps-any; exactly = made-refusal; untouched = made-untouched; without = steps-without (λ m v s o x n p. made-untouched x n p .memory); used-up = made-used-up }
+demand-1 = record { any = steps-any; exactly = made-refusal; untouched = made-untouched; write-exactly = writer-exactly; write-untouched = writer-untouched; without = steps-without (λ m v s o x n p. made-untouched x n p .memory); used-up = made-used-up }
 
 -- a feed that is not refused was lent a table of the right length
 table-right : (t : List ℕ) (l room : ℕ) → feedRefusal t l room ≡ none → length t ≡ tableSize
@@ -362,7 +394,7 @@ run-cut-lines F G four begun used lines =
     }
 
 pub demand-2 : Demand2
-demand-2 = record { read = read-exactly (λ l F. run-told l (feedsOf F)) list-kept; written = record { by-feed = made-frames; by-finish = finish-frames; read-back = read-frames }; guarded = steps-guarded; logged = steps-login; served = made-served; told = λ l F. run-told l (feedsOf F); in-order = λ F. run-in-order (feedsOf F); frames = λ l F. run-frames l (feedsOf F); cut = λ l F G. run-cut l (feedsOf F) (feedsOf G); kept = list-kept; cut-lines = λ F G. run-cut-lines (feedsOf F) (feedsOf G) }
+demand-2 = record { read = read-exactly (λ l F. run-told l (feedsOf F)) list-kept; written = record { by-feed = made-frames; by-finish = finish-frames; by-writer = writer-wrote; read-back = read-frames }; guarded = steps-guarded; logged = steps-login; served = made-served; told = λ l F. run-told l (feedsOf F); in-order = λ F. run-in-order (feedsOf F); frames = λ l F. run-frames l (feedsOf F); cut = λ l F G. run-cut l (feedsOf F) (feedsOf G); kept = list-kept; cut-lines = λ F G. run-cut-lines (feedsOf F) (feedsOf G) }
 
 steps-one : {m e : Memory} {ss : List Step} {os : List Return} → Steps m ss os e → (n : ℕ) → OneAtMost n (m .hub) → OneAtMost n (e .hub)
 unfolding worldOf

@@ -1,22 +1,27 @@
 -- "Frames are read and written exactly as the KLF 200 specification 3.18 says" (demand 2): of what the calls read and write, in document 01's words.
-use Prim.Native.Nat.{ℕ}
-use mathlib.Core.Path.{_≡_, ap, _∙_}
-use mathlib.Core.List.{List, [], _++_, map}
+use Prim.Native.Nat.{ℕ, _≤_}
+use mathlib.Core.Path.{_≡_, sym, ap, _∙_}
+use mathlib.Core.List.{List, [], _∷_, _++_, map}
 use mathlib.Core.Option.{Option}
-use lib.ListN.{take, getD}
+use lib.ListN.{length, take, drop, getD}
+use lib.Seq.{take-at, drop-at}
 use Rattle.frame.specs.Line.{closed, last, decode, pieceOutcomes, written}
-use Rattle.frame.specs.Frame.{Outcome, frame, commandOf, dataOf, judge}
+use Rattle.frame.specs.Frame.{Outcome, frame, commandOf, dataOf, judge, wire, maxData}
+use Rattle.frame.specs.declared.Written.{Written}
+use Rattle.frame.specs.Writer as writer
+use Rattle.frame.specs.Writer.{upTo, write, Writes}
+use Rattle.frame.specs.WireLaws.{write-done}
 use Rattle.frame.specs.JudgeLaws.{Accepted, judge-accepted, judge-frame, accepted-judge}
 use Rattle.frame.specs.Reader.{outcomes, final, emptied, emptiedReading, step, taken, judged}
 use Rattle.frame.specs.ReaderLaws.{by-pieces-taken}
 use Rattle.feeds.specs.System.{told}
-use Rattle.feeds.specs.Sent.{frameOf}
+use Rattle.feeds.specs.Sent.{frameOf, sent}
 use Rattle.feeds.specs.SentLaws.{outcomes-frames}
 use Rattle.feeds.specs.Service.{Lent, Got, Feeds, usedIn, toldIn}
 use Rattle.feeds.specs.Demand3.{Line, recordAt}
 use Rattle.rules.specs.Hub.{hub, finishedOn}
 use Rattle.rules.specs.Answers.{FinishedSession}
-use Rattle.rules.specs.Frames.{Frames}
+use Rattle.rules.specs.Frames.{Frames, asSent, wire-sent}
 use Rattle.demands.specs.Steps.{Memory, feed, finish, fed, finished, Made}
 use Rattle.demands.specs.FeedLists.{FeedList, feedsOf}
 
@@ -34,11 +39,19 @@ pub record ReadExactly : Type 0 where
   pub accepted : (h : List ℕ) → Accepted h → judge h ≡ frame (commandOf h) (dataOf h)
   pub checked : (h : List ℕ) (c : ℕ) (d : List ℕ) → judge h ≡ frame c d → Accepted h × (c ≡ commandOf h) × (d ≡ dataOf h)
 
+-- the room that the writer leaves where it writes n bytes
+pub record Wrote (room : List ℕ) (c : ℕ) (d : List ℕ) (n : ℕ) (left : List ℕ) : Type 0 where
+  pub most : length d ≤ maxData
+  pub frame : take n left ≡ sent (asSent c d most ∷ [])
+  pub behind : drop n left ≡ drop n room
+
 -- writing
 pub record WrittenExactly : Type 0 where
   -- what a feed writes are well-formed frames, each with an END before and after; so is what a finish writes
   pub by-feed : {m v : Memory} {g : Lent} {o : Got hub} → Made m (feed g) (fed o) v → (u : ℕ) (y : Option Outcome) (k : ℕ) → o .answer ≡ told u y k → Frames (take k (o .room))
   pub by-finish : {m v : Memory} {x : ℕ} {room : List ℕ} {o : FinishedSession} → Made m (finish x room) (finished o) v → (l k : ℕ) → o .answer ≡ finishedOn l k → Frames (take k (o .room))
+  -- what the frame writer writes, unless it refuses, is one, of its command and data; what stood behind it stays
+  pub by-writer : (room : List ℕ) (c : ℕ) (d : List ℕ) (r : Written) (left : List ℕ) → Writes (write room c d) (writer.told r) left → (n : ℕ) → writer.told r ≡ upTo n → Wrote room c d n left
   -- they are read as these frames and nothing else
   pub read-back : (w : List ℕ) (x : Frames w) → outcomes step emptied w ≡ map frameOf (x .frames)
 
@@ -57,3 +70,14 @@ read-exactly outcome state = record {
 -- and of what is read back
 pub read-frames : (w : List ℕ) (x : Frames w) → outcomes step emptied w ≡ map frameOf (x .frames)
 read-frames w x = ap (outcomes step emptied) (x .bytes) ∙ outcomes-frames (x .frames)
+
+-- what the writer leaves, by the laws of its definition
+pub writer-wrote : (room : List ℕ) (c : ℕ) (d : List ℕ) (r : Written) (left : List ℕ) → Writes (write room c d) (writer.told r) left → (n : ℕ) → writer.told r ≡ upTo n → Wrote room c d n left
+writer-wrote room c d r left x n e =
+    let (most, k, w) = write-done room c d n (sym (x .answer) ∙ e) in
+    let l : left ≡ wire c d ++ drop n room = x .room ∙ w in
+    record {
+      most = most;
+      frame = rw (l, take-at (wire c d) (drop n room) n (sym k)) (wire-sent c d most);
+      behind = rw (l, drop-at (wire c d) (drop n room) n (sym k));
+    }

@@ -3,11 +3,10 @@ use Prim.Native.Nat.{ℕ, _+_}
 use mathlib.Core.Path.{_≡_, refl}
 use mathlib.Core.List.{List, [], _∷_, _++_, map}
 use lib.ListN.{length, replicate}
-use Rattle.frame.specs.declared.Written.the-variants.{Length, ShortRoom, LongData}
-use Rattle.frame.specs.declared.WrittenAt.the-variants as at
 use Rattle.frame.specs.Xor.{_⊕_, xorAll}
 use Rattle.frame.specs.Frame.{escape, frame, refused, headOf, body, framed, wire, commandOf, tooLong, tooShort, wrongProtocol, wrongLength, wrongCheck, judge}
-use Rattle.frame.specs.View.{shownCommand, shownData, shownStart}
+use Rattle.frame.specs.View.{shownCommand, shownData, shownRefusal, shownStart}
+use Rattle.frame.specs.Writer as writer
 use Rattle.frame.specs.Writer.{write, writeAt}
 
 -- two of the packets
@@ -67,6 +66,11 @@ shown-data : map (λ (h : List ℕ). shownData (judge h)) (p4 ∷ p11 ∷ []) �
 unfolding p4 p11 judge xorAll _⊕_ wrongCheck
 shown-data = refl
 
+-- P11's view is told from that of the frame 0000 without data
+shown-refusal : map (λ (h : List ℕ). shownRefusal (judge h)) (p4 ∷ p11 ∷ framed 0x0000 [] ∷ []) ≡ 0 ∷ 6 ∷ 0 ∷ []
+unfolding p4 p11 judge framed body xorAll _⊕_ wrongCheck
+shown-refusal = refl
+
 -- the wire forms of P3 to P6
 p3-sent : List ℕ
 p3-sent = 0xC0 ∷ 0x00 ∷ 0x03 ∷ 0x00 ∷ 0x01 ∷ 0x02 ∷ 0xC0 ∷ []
@@ -87,28 +91,28 @@ unfolding wire framed body escape xorAll _⊕_
 length-escaped = refl
 
 -- P3 written: room of 512 bytes is taken, one of 511 is not, and the bytes behind the wire form stay
-room-512 : write (replicate 512 7) 0x0001 [] ≡ record { answer = Length 7; room = p3-sent ++ replicate 505 7 }
+room-512 : write (replicate 512 7) 0x0001 [] ≡ record { answer = writer.upTo 7; room = p3-sent ++ replicate 505 7 }
 unfolding p3-sent write wire framed body escape xorAll _⊕_
 room-512 = refl
 
-room-511 : write (replicate 511 7) 0x0001 [] ≡ record { answer = ShortRoom; room = replicate 511 7 }
+room-511 : write (replicate 511 7) 0x0001 [] ≡ record { answer = writer.refused 9; room = replicate 511 7 }
 unfolding write
 room-511 = refl
 
 -- 250 data bytes are written, 251 are not
-data-250 : write (replicate 512 7) 0x0001 (replicate 250 0) .answer ≡ Length 257
+data-250 : write (replicate 512 7) 0x0001 (replicate 250 0) .answer ≡ writer.upTo 257
 unfolding write wire framed body escape xorAll _⊕_
 data-250 = refl
 
-data-251 : write (replicate 512 7) 0x0001 (replicate 251 0) ≡ record { answer = LongData; room = replicate 512 7 }
+data-251 : write (replicate 512 7) 0x0001 (replicate 251 0) ≡ record { answer = writer.refused 10; room = replicate 512 7 }
 unfolding write
 data-251 = refl
 
 -- P3 written from the place 1 on: it fits where 7 bytes are left, and no fewer
-fits : writeAt (replicate 8 7) 1 0x0001 [] ≡ record { answer = at.UpTo 8; room = 7 ∷ p3-sent }
+fits : writeAt (replicate 8 7) 1 0x0001 [] ≡ record { answer = writer.upTo 8; room = 7 ∷ p3-sent }
 unfolding p3-sent writeAt wire framed body escape xorAll _⊕_
 fits = refl
 
-no-fit : writeAt (replicate 7 7) 1 0x0001 [] ≡ record { answer = at.NoFit; room = replicate 7 7 }
+no-fit : writeAt (replicate 7 7) 1 0x0001 [] ≡ record { answer = writer.noFit; room = replicate 7 7 }
 unfolding writeAt wire framed body escape xorAll _⊕_
 no-fit = refl

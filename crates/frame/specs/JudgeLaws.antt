@@ -177,9 +177,13 @@ bytes-at [] i x = omega arith
 bytes-at (b ∷ l) zero x = x .0
 bytes-at (b ∷ l) (suc i) x = bytes-at l i (x .1)
 
--- a packet of bytes that is accepted is the frame made of its command and data
-pub framed-again : (h : List ℕ) {c : ℕ} {d : List ℕ} → judge h ≡ frame c d → Bytes h → framed c d ≡ h
-framed-again h e b =
+-- a packet that is accepted is the frame made of its command and data, where the command's low byte is one
+pub framed-back : (h : List ℕ) {c : ℕ} {d : List ℕ} → judge h ≡ frame c d → getD h 3 0 < 256 → framed c d ≡ h
+framed-back h e b =
     let a = judge-accepted {h = h} e in
     let j = judge-frame h e in
-    ap₂ framed (j .0) (j .1) ∙ framed-parts (parts-of h (a .at-least)) a (bytes-at h 3 b)
+    ap₂ framed (j .0) (j .1) ∙ framed-parts (parts-of h (a .at-least)) a b
+
+-- so is one of bytes
+pub framed-again : (h : List ℕ) {c : ℕ} {d : List ℕ} → judge h ≡ frame c d → Bytes h → framed c d ≡ h
+framed-again h e b = framed-back h e (bytes-at h 3 b)

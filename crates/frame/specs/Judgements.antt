@@ -15,8 +15,9 @@ use Rattle.frame.specs.declared.Judged.{Judged}
 use Rattle.frame.specs.declared.Judged.the-variants as judged
 use Rattle.frame.specs.declared.FrameOutcome.{FrameOutcome}
 use Rattle.frame.specs.declared.FrameOutcome.the-variants as given
+use Rattle.frame.specs.Frame.{refusal}
 use Rattle.frame.specs.Reader.{verdict}
-use Rattle.frame.specs.Answers.{told, Within}
+use Rattle.frame.specs.Answers.{told, Within, Whole}
 use Rattle.frame.specs.View.{Part}
 
 -- `cause_of`: a fault of the line reader, as a cause of refusal
@@ -33,6 +34,7 @@ outcomeOf (judged.Refused r) = given.Refused r
 pub record Judging (bs : List ℕ) (g : Got) (r : FrameOutcome) : Type 0 where
   pub told : told r bs ≡ verdict (packetOf g bs)
   pub within : Within r
+  pub whole : Whole r bs
   pub full : length bs ≡ limit
 
 -- `command_of`: the command number that is shown
@@ -44,3 +46,8 @@ commandIn (judged.Refused r) = 0
 abbrev pub partIn : RefT (List ℕ) → Judged → RefT (List ℕ) → Type 0
 partIn x (judged.Frame c s n) r = Part x s n r
 partIn x (judged.Refused c) r = Part x 0 0 r
+
+-- `refusal_of`: the number of refusal that is shown
+abbrev pub refusalIn : Judged → ℕ
+refusalIn (judged.Frame c s n) = 0
+refusalIn (judged.Refused r) = refusal r

@@ -2,12 +2,14 @@
 use Prim.Native.Nat.{ℕ, _+_, _≤_}
 use mathlib.Core.Path.{_≡_}
 use mathlib.Core.List.{List, []}
+use mathlib.Core.Bool.{cond}
 use lib.ListN.{length, take, drop}
+use lib.Dec.{eqb}
 use denote.Ref.{RefT}
 use Rattle.frame.specs.declared.view.View.{View}
 use Rattle.frame.specs.Frame.{Outcome, frame, refused, head}
 
--- a frame's command number and data; of a refused packet 0 and none
+-- a frame's command number, data and 0; of a refused packet 0, none and the number of its refusal
 abbrev pub shownCommand : Outcome → ℕ
 shownCommand (frame c d) = c
 shownCommand (refused n) = 0
@@ -15,6 +17,10 @@ shownCommand (refused n) = 0
 abbrev pub shownData : Outcome → List ℕ
 shownData (frame c d) = d
 shownData (refused n) = []
+
+abbrev pub shownRefusal : Outcome → ℕ
+shownRefusal (frame c d) = 0
+shownRefusal (refused n) = n
 
 -- where the data begin: behind a frame's head; of a refused packet, at its start
 abbrev pub shownStart : Outcome → ℕ
@@ -31,4 +37,9 @@ pub record Part (x : RefT (List ℕ)) (s n : ℕ) (r : RefT (List ℕ)) : Type 0
 pub record Shows (o : Outcome) (x : RefT (List ℕ)) (v : View) : Type 0 where
   pub command : v .command ≡ shownCommand o
   pub told : v .«data» .now ≡ shownData o
+  pub refusal : v .refusal ≡ shownRefusal o
   pub part : Part x (shownStart o) (length (shownData o)) (v .«data»)
+
+-- the outcome that a view tells: the refusal that it shows, or, if that is 0, the frame
+abbrev pub outcomeIn : View → Outcome
+outcomeIn v = cond (eqb (v .refusal) 0) (frame (v .command) (v .«data» .now)) (refused (v .refusal))

@@ -1,19 +1,17 @@
 -- Laws of the wire form.
 use Prim.Native.Nat.{ℕ, _+_, _*_, _≤_}
-use mathlib.Core.Path.{_≡_, refl, ap, _∙_}
+use mathlib.Core.Path.{_≡_, refl, sym, ap, _∙_}
 use mathlib.Core.List.{List, [], _∷_, _++_, append-assoc}
 use mathlib.Core.Bool.{Bool, true, false, cond}
-use mathlib.Core.Option.{none, some}
 use native.Mathlib.Omega.{arith}
 use lib.ListN.{length, drop, length-append}
 use lib.Dec.{ltb}
+use borrow.Author.Tests.{ltb-false}
 use Rattle.line.specs.Wire.{END, escape}
 use Rattle.line.specs.WireLaws.{escape-append, escape-short}
 use Rattle.frame.specs.XorLaws.{xorAll-append}
 use Rattle.frame.specs.Frame.{maxData, headOf, body, framed, wire}
-use Rattle.frame.specs.declared.Written.{Written}
-use Rattle.frame.specs.declared.Written.the-variants as written
-use Rattle.frame.specs.Writer.{minRoom, refusalOf, Wire, write, check}
+use Rattle.frame.specs.Writer.{minRoom, shortRoom, longData, upTo, refused, Wire, write, check}
 
 framed-parts : (c : ℕ) (d : List ℕ) → framed c d ≡ headOf c (length d) ++ d ++ check c d ∷ []
 unfolding framed body
@@ -38,14 +36,48 @@ wire-short c d =
 pub wire-fits : (c : ℕ) (d : List ℕ) → length d ≤ maxData → length (wire c d) ≤ minRoom
 wire-fits c d h = omega (arith, wire-short c d)
 
+-- what is written, by the two tests
+abbrev by : List ℕ → ℕ → List ℕ → Bool → Bool → Wire
+by room c d short long =
+    cond short (record { answer = refused shortRoom; room = room })
+    (cond long (record { answer = refused longData; room = room }) (record { answer = upTo (length (wire c d)); room = wire c d ++ drop (length (wire c d)) room }))
+
 -- writing is refused by document 01's numbers: 9 for room below 512 bytes, then 10 for data above 250
-pub write-refusal : (room : List ℕ) (c : ℕ) (d : List ℕ) → refusalOf (write room c d .answer) ≡ cond (ltb (length room) 512) (some 9) (cond (ltb 250 (length d)) (some 10) none)
+pub write-refusal : (room : List ℕ) (c : ℕ) (d : List ℕ)
+    → write room c d .answer ≡ cond (ltb (length room) 512) (refused 9) (cond (ltb 250 (length d)) (refused 10) (upTo (length (wire c d))))
 unfolding write
 write-refusal room c d = go (ltb (length room) minRoom) (ltb maxData (length d))
   where
     go : (a b : Bool)
-        → refusalOf (cond {A = Wire Written} a (record { answer = written.ShortRoom; room = room }) (cond b (record { answer = written.LongData; room = room }) (record { answer = written.Length (length (wire c d)); room = wire c d ++ drop (length (wire c d)) room })) .answer)
-        ≡ cond a (some 9) (cond b (some 10) none)
+        → by room c d a b .answer
+        ≡ cond a (refused 9) (cond b (refused 10) (upTo (length (wire c d))))
     go true b = refl
     go false true = refl
     go false false = refl
+
+-- a refused write leaves the room as it was lent
+pub write-untouched : (room : List ℕ) (c : ℕ) (d : List ℕ) (n : ℕ) → write room c d .answer ≡ refused n → write room c d .room ≡ room
+unfolding write
+write-untouched room c d n = go (ltb (length room) minRoom) (ltb maxData (length d))
+  where
+    go : (a b : Bool)
+        → by room c d a b .answer ≡ refused n
+        → by room c d a b .room ≡ room
+    go true b e = refl
+    go false true e = refl
+    go false false e = let z : _≡_ {A = ℕ} 0 1 = cc in absurd (omega arith)
+
+-- any other writes the wire form of no more than 250 data bytes, and the bytes behind it stay
+pub write-done : (room : List ℕ) (c : ℕ) (d : List ℕ) (n : ℕ) → write room c d .answer ≡ upTo n
+    → (length d ≤ maxData) × (n ≡ length (wire c d)) × (write room c d .room ≡ wire c d ++ drop n room)
+unfolding write
+write-done room c d n = go (ltb (length room) minRoom) (ltb maxData (length d)) refl
+  where
+    go : (a b : Bool) → ltb maxData (length d) ≡ b
+        → by room c d a b .answer ≡ upTo n
+        → (length d ≤ maxData) × (n ≡ length (wire c d)) × (by room c d a b .room ≡ wire c d ++ drop n room)
+    go true b q e = let z : _≡_ {A = ℕ} 0 1 = cc in absurd (omega arith)
+    go false true q e = let z : _≡_ {A = ℕ} 0 1 = cc in absurd (omega arith)
+    go false false q e =
+        let k : length (wire c d) ≡ n = cc in
+        (ltb-false maxData (length d) q, sym k, ap (λ (i : ℕ). wire c d ++ drop i room) k)

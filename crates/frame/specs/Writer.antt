@@ -3,7 +3,6 @@ use Prim.Native.Nat.{ℕ, _+_}
 use mathlib.Core.Path.{_≡_}
 use mathlib.Core.List.{List, _++_}
 use mathlib.Core.Bool.{cond}
-use mathlib.Core.Option.{Option, none, some}
 use lib.ListN.{length, take, drop}
 use lib.Dec.{ltb}
 use Rattle.frame.specs.declared.Written.{Written}
@@ -17,33 +16,52 @@ use Rattle.frame.specs.Frame.{headOf, wire, maxData}
 abbrev pub minRoom : ℕ
 minRoom = 512
 
--- document 01's number of refusal
-abbrev pub refusalOf : Written → Option ℕ
-refusalOf (written.Length n) = none
-refusalOf written.ShortRoom = some 9
-refusalOf written.LongData = some 10
+-- document 01's numbers of the writer's refusals
+abbrev pub shortRoom : ℕ
+shortRoom = 9
 
--- what a call that writes answers, and the room that it leaves
-pub record Wire (Answer : Type 0) : Type 0 where
-  pub answer : Answer
+abbrev pub longData : ℕ
+longData = 10
+
+-- what writing comes to: the room written up to a place, a refusal by its number, or, at an offset only, that the room from there on is
+-- too short, for which document 01 has no number
+pub data Writing : Type 0 where
+  upTo : ℕ → Writing
+  refused : ℕ → Writing
+  noFit : Writing
+
+-- what the code's answers tell
+abbrev pub told : Written → Writing
+told (written.Length n) = upTo n
+told written.ShortRoom = refused shortRoom
+told written.LongData = refused longData
+
+abbrev pub toldAt : WrittenAt → Writing
+toldAt (at.UpTo n) = upTo n
+toldAt at.NoFit = noFit
+toldAt at.LongData = refused longData
+
+-- what a call that writes comes to, and the room that it leaves
+pub record Wire : Type 0 where
+  pub answer : Writing
   pub room : List ℕ
 
 -- refusal 9 for room below 512, then 10 for data above 250, nothing written; else the wire form, and what stood behind it
-unfoldable pub write : List ℕ → ℕ → List ℕ → Wire Written
+unfoldable pub write : List ℕ → ℕ → List ℕ → Wire
 write room c d =
-    cond (ltb (length room) minRoom) (record { answer = written.ShortRoom; room = room })
-    (cond (ltb maxData (length d)) (record { answer = written.LongData; room = room })
-    (record { answer = written.Length (length (wire c d)); room = wire c d ++ drop (length (wire c d)) room }))
+    cond (ltb (length room) minRoom) (record { answer = refused shortRoom; room = room })
+    (cond (ltb maxData (length d)) (record { answer = refused longData; room = room })
+    (record { answer = upTo (length (wire c d)); room = wire c d ++ drop (length (wire c d)) room }))
 
 -- the same from the place i on, in room of any length: it is written whole or not at all
-unfoldable pub writeAt : List ℕ → ℕ → ℕ → List ℕ → Wire WrittenAt
+unfoldable pub writeAt : List ℕ → ℕ → ℕ → List ℕ → Wire
 writeAt room i c d =
-    cond (ltb maxData (length d)) (record { answer = at.LongData; room = room })
-    (cond (ltb (length room) (i + length (wire c d))) (record { answer = at.NoFit; room = room })
-    (record { answer = at.UpTo (i + length (wire c d)); room = take i room ++ wire c d ++ drop (i + length (wire c d)) room }))
+    cond (ltb maxData (length d)) (record { answer = refused longData; room = room })
+    (cond (ltb (length room) (i + length (wire c d))) (record { answer = noFit; room = room })
+    (record { answer = upTo (i + length (wire c d)); room = take i room ++ wire c d ++ drop (i + length (wire c d)) room }))
 
--- an answer and a room are the definition's
-pub record Writes {Answer : Type 0} (x : Wire Answer) (r : Answer) (l : List ℕ) : Type 0 where
+-- what an answer tells and a room are the definition's
+pub record Writes (x : Wire) (r : Writing) (l : List ℕ) : Type 0 where
   pub answer : r ≡ x .answer
   pub room : l ≡ x .room
 

@@ -23,6 +23,7 @@ pub use reader::read_in;
 pub use view::View;
 pub use view::command;
 pub use view::data;
+pub use view::refusal;
 pub use view::show;
 pub use writer::write;
 pub use writer::write_at;

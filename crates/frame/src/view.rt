@@ -1,17 +1,19 @@
-// The view: an accepted frame shown as a part of the caller's own bytes, its data neither copied nor moved.
+// The view: an accepted frame shown as a part of the caller's own bytes, its data neither copied nor moved; of a packet that is not
+// accepted, why.
 // What is shown is the definition's, and the data are that very part of the lent slice: specs/View.antt.
 ghost use mathlib.Core.Path.{_≡_};
 ghost use Rattle.frame.specs.Frame.{judge};
 ghost use Rattle.frame.specs.Answers.{JudgedWithin};
 ghost use Rattle.frame.specs.View.{Shows};
-ghost use Rattle.frame.specs.Judgements.{commandIn, partIn};
+ghost use Rattle.frame.specs.Judgements.{commandIn, partIn, refusalIn};
 use crate::Judged;
 
-// A frame's command number and its data, where they lie; of a refused packet, 0 and the empty part at its start. Who must tell
-// such a view from that of the frame 0000 without data asks `judge`.
+// A frame's command number and its data, where they lie, and 0; of a refused packet, 0, the empty part at its start, and document
+// 01's number of its refusal.
 pub struct View<'a> {
     pub command: u16,
     pub data: &'a [u8],
+    pub refusal: u8,
 }
 
 // The view of a packet.
@@ -22,6 +24,7 @@ pub fn show<'a>(bytes: &'a [u8]) -> View<'a>
     View {
         command: command_of(judged),
         data: part_of(bytes, judged),
+        refusal: refusal_of(judged),
     }
 }
 
@@ -37,6 +40,13 @@ pub fn data<'a>(view: View<'a>) -> &'a [u8]
     ensures { λ r. ⌜ r ≡ view .entry .«data» ⌝ }
 {
     view.data
+}
+
+// The number of refusal that a view shows, 0 if the packet was accepted.
+pub fn refusal<'a>(view: View<'a>) -> u8
+    ensures { λ r. ⌜ r ≡ view .entry .refusal ⌝ }
+{
+    view.refusal
 }
 
 fn command_of(judged: Judged) -> u16
@@ -63,5 +73,18 @@ fn part_of(bytes: &[u8], judged: Judged) -> &[u8]
             len,
         } => &bytes[start..start + len],
         Judged::Refused(_) => &bytes[0..0],
+    }
+}
+
+fn refusal_of(judged: Judged) -> u8
+    ensures { λ r. ⌜ r ≡ refusalIn judged ⌝ }
+{
+    match judged {
+        Judged::Frame {
+            command: _,
+            start: _,
+            len: _,
+        } => 0,
+        Judged::Refused(cause) => crate::checks::number(cause),
     }
 }

@@ -1,19 +1,19 @@
 // Writing: a command with data to its wire form, both ENDs included.
-// Each call's answer and the room that it leaves are the definition's: specs/Writer.antt.
+// What each call's answer tells and the room that it leaves are the definition's: specs/Writer.antt.
 ghost use mathlib.Core.Path.{_≡_};
 ghost use Prim.Native.Nat.{_+_, _≤_};
 ghost use mathlib.Core.List.{[], _∷_};
 ghost use lib.ListN.{length};
 ghost use Rattle.memory.specs.Wrote.{Wrote};
 ghost use Rattle.frame.specs.Frame.{maxData, headOf, escape, wire};
-ghost use Rattle.frame.specs.Writer.{write, writeAt, Writes, check};
+ghost use Rattle.frame.specs.Writer.{told, toldAt, write, writeAt, Writes, check};
 use crate::DATA;
 use crate::Written;
 use crate::WrittenAt;
 
 // The wire form at the front of the room; the bytes behind it stay.
 pub fn write(room: &mut [u8], command: u16, payload: &[u8]) -> Written
-    ensures { λ r. ⌜ Writes (write (now (room .entry)) command (now (payload .entry))) r (now (room .exit)) ⌝ }
+    ensures { λ r. ⌜ Writes (write (now (room .entry)) command (now (payload .entry))) (told r) (now (room .exit)) ⌝ }
 {
     if room.len() < crate::ROOM {
         return Written::ShortRoom;
@@ -27,7 +27,7 @@ pub fn write(room: &mut [u8], command: u16, payload: &[u8]) -> Written
 
 // The wire form from `start` on, in room of any length: it is written whole or not at all.
 pub fn write_at(room: &mut [u8], start: usize, command: u16, payload: &[u8]) -> WrittenAt
-    ensures { λ r. ⌜ Writes (writeAt (now (room .entry)) start command (now (payload .entry))) r (now (room .exit)) ⌝ }
+    ensures { λ r. ⌜ Writes (writeAt (now (room .entry)) start command (now (payload .entry))) (toldAt r) (now (room .exit)) ⌝ }
 {
     if DATA < payload.len() {
         return WrittenAt::LongData;

@@ -32,9 +32,12 @@ pub record Frames (w : List ℕ) : Type 0 where
   pub bytes : w ≡ sent frames
 
 -- one frame
-pub one-frame : (c : ℕ) (d : List ℕ) → length d ≤ maxData → Frames (wire c d)
+pub wire-sent : (c : ℕ) (d : List ℕ) (n : length d ≤ maxData) → wire c d ≡ sent (asSent c d n ∷ [])
 unfolding wire sent
-one-frame c d n = record { frames = asSent c d n ∷ []; ends = (refl, tt); bytes = sym (append-nil (enclosed 1 (escape (framed c d)))) }
+wire-sent c d n = sym (append-nil (enclosed 1 (escape (framed c d))))
+
+pub one-frame : (c : ℕ) (d : List ℕ) → length d ≤ maxData → Frames (wire c d)
+one-frame c d n = record { frames = asSent c d n ∷ []; ends = (refl, tt); bytes = wire-sent c d n }
 
 -- frames behind frames
 sent-append : (a b : List Sent) → sent (a ++ b) ≡ sent a ++ sent b

@@ -9,6 +9,7 @@ use Rattle.memory.specs.Octets.{same}
 use Rattle.frame.specs.Frame.{Outcome, frame, refused, wire}
 use Rattle.frame.specs.Reader.{State, emptied}
 use Rattle.frame.specs.Writer.{minRoom}
+pub use Rattle.frame.specs.Writer.{shortRoom}
 use Rattle.nodes.specs.Table as table
 use Rattle.sessions.specs.Sessions as sessions
 use Rattle.sessions.specs.declared.Slot.{Slot}
@@ -23,16 +24,13 @@ lineCount = 4
 abbrev pub passwordSize : ℕ
 passwordSize = 32
 
--- ---- numbers of refusal, of the calls; 13 is the sessions' own
+-- ---- numbers of refusal, of the calls; 9 is the frame writer's too, and 13 the sessions'
 
 abbrev pub wrongTable : ℕ
 wrongTable = 7
 
 abbrev pub wrongLine : ℕ
 wrongLine = 8
-
-abbrev pub shortRoom : ℕ
-shortRoom = 9
 
 abbrev pub wrongNode : ℕ
 wrongNode = 11

@@ -7,34 +7,27 @@ use lib.ListN.{length, drop, length-append, length-drop}
 use lib.Seq.{take-append-seam, drop-append-add, drop-drop}
 use borrow.Author.Tests.{le-ltb}
 use Rattle.frame.specs.Frame.{wire, maxData}
-use Rattle.frame.specs.Writer.{minRoom, write, writeAt, Writes}
+use Rattle.frame.specs.Writer.{minRoom, Writing, upTo, refused, noFit, told, toldAt, write, writeAt, Writes}
 use Rattle.frame.specs.declared.Written.{Written}
-use Rattle.frame.specs.declared.Written.the-variants as written
 use Rattle.frame.specs.declared.WrittenAt.{WrittenAt}
-use Rattle.frame.specs.declared.WrittenAt.the-variants as at
 use Rattle.rules.specs.Room.{Replied, RepliedAt}
 
--- the length that each answer tells; none is told of a frame that is not written
-abbrev lengthOf : Written → ℕ
-lengthOf (written.Length n) = n
-lengthOf written.ShortRoom = 0
-lengthOf written.LongData = 0
-
-abbrev placeOf : WrittenAt → ℕ
-placeOf (at.UpTo n) = n
-placeOf at.NoFit = 0
-placeOf at.LongData = 0
+-- the place up to which an answer says that the room is written; none is told of a frame that is not written
+abbrev placeOf : Writing → ℕ
+placeOf (upTo n) = n
+placeOf (refused n) = 0
+placeOf noFit = 0
 
 module _ (room d : List ℕ) (c : ℕ) (left : List ℕ) (fits : length d ≤ maxData) where
   -- a frame at the front
-  pub written-reply : minRoom ≤ length room → (r : Written) → Writes (write room c d) r left → Replied (wire c d) room (lengthOf r) left
+  pub written-reply : minRoom ≤ length room → (r : Written) → Writes (write room c d) (told r) left → Replied (wire c d) room (placeOf (told r)) left
   unfolding write
   written-reply h r w =
       let v = rw (le-ltb (length room) minRoom h, le-ltb maxData (length d) fits) at w in
-      record { len = ap lengthOf (v .answer); content = v .room }
+      record { len = ap placeOf (v .answer); content = v .room }
 
   -- a frame behind the first i bytes
-  pub placed-reply : (i : ℕ) → i + length (wire c d) ≤ length room → (r : WrittenAt) → Writes (writeAt room i c d) r left → RepliedAt i (wire c d) room (placeOf r) left
+  pub placed-reply : (i : ℕ) → i + length (wire c d) ≤ length room → (r : WrittenAt) → Writes (writeAt room i c d) (toldAt r) left → RepliedAt i (wire c d) room (placeOf (toldAt r)) left
   unfolding writeAt
   placed-reply i h r w =
       let v = rw (le-ltb maxData (length d) fits, le-ltb (length room) (i + length (wire c d)) h) at w in

@@ -17,9 +17,9 @@ use Rattle.line.specs.declared.PacketAt as line-told
 use Rattle.line.specs.Reader as line
 use Rattle.line.specs.Answers as line-answers
 use Rattle.frame.specs.Frame as Frame
-use Rattle.frame.specs.Frame.{frame, head, around, judge}
+use Rattle.frame.specs.Frame.{frame, head, around, framed, judge}
 use Rattle.frame.specs.Reader.{State, takenAs, verdict, read}
-use Rattle.frame.specs.Answers.{Judges, told, answerOf, Answers}
+use Rattle.frame.specs.Answers.{Judges, told, Whole, answerOf, Answers}
 use Rattle.frame.specs.ReaderLaws.{judgedCall, read-judged}
 use Rattle.frame.specs.Judgements.{outcomeOf, Judging}
 
@@ -34,6 +34,11 @@ front-part bs n k e =
     let m : n ≡ head + suc k = omega arith in
     ap (λ (x : ℕ). take k (drop head (take x bs))) m ∙ ap (take k) (drop-take head (suc k) bs) ∙ take-take k (suc k) (drop head bs) (omega arith)
 
+-- a packet that is a frame at the front of bs stands there whole
+front-whole : (bs : List ℕ) (c n k s : ℕ) → s ≡ head → k + around ≡ n → take n bs ≡ framed c (take k (drop s (take n bs))) → take (k + around) bs ≡ framed c (take k (drop head bs))
+front-whole bs c n k s p e w =
+    ap (λ (x : ℕ). take x bs) e ∙ w ∙ ap (λ (x : ℕ). framed c (take k (drop x (take n bs)))) p ∙ ap (framed c) (front-part bs n k e)
+
 -- a packet of n bytes at the front of bs was judged as j
 pub judging : (bs : List ℕ) (n : ℕ) (g : Got) (j : Judged) (r : FrameOutcome) → g ≡ got.Packet n → r ≡ outcomeOf j
     → Judges (judge (take n bs)) (take n bs) j → n ≤ limit → length bs ≡ limit → Judging bs g r
@@ -47,9 +52,10 @@ judging bs n g (judged.Frame c s k) r e f x h l =
           (ap some
           (ap (frame c) (sym (front-part bs n k (q ∙ w))) ∙ ap (λ (i : ℕ). frame c (take k (drop i (take n bs)))) (sym p) ∙ x .told));
       within = rw f m;
+      whole = rw f (front-whole bs c n k s p (q ∙ w) (x .whole));
       full = l;
     }
-judging bs n g (judged.Refused q) r e f x h l = record { told = rw (e, f) (ap some (x .told)); within = rw f tt; full = l }
+judging bs n g (judged.Refused q) r e f x h l = record { told = rw (e, f) (ap some (x .told)); within = rw f tt; whole = rw f tt; full = l }
 
 -- what the line reader answered, judged, is what the frame layer answers
 pub answered : (s : State) (w bs : List ℕ) (t : line-told.PacketAt) (o : FrameOutcome) → line-answers.Answers (line.read s w) (line-answers.answerOf bs t) → Judging bs (t .outcome) o
@@ -60,6 +66,7 @@ answered s w bs t o x y = record {
       ∙ ap judgedCall (x .told)
       ∙ sym (read-judged s w);
   data-within = y .within;
+  packet = y .whole;
   count-within = x .count-within;
   clear = x .clear;
   full = y .full;

@@ -46,7 +46,7 @@ cause-of-requires c κs = search needs
 
 returns : tie.Need-returns
 unfolding verdict
-returns c = record { told = rw (c .enum-told .given .1); within = tt; full = c .before .before .before .pre .0 }
+returns c = record { told = rw (c .enum-told .given .1); within = tt; whole = tt; full = c .before .before .before .pre .0 }
 
 returns-2 : tie.Need-returns-2
 returns-2 c =
@@ -57,7 +57,7 @@ returns-2 c =
 
 returns-3 : tie.Need-returns-3
 unfolding verdict
-returns-3 c = record { told = rw (c .before .before .got2 .given .1, c .cause-of .ensures) (ap (λ (n : ℕ). some (refused n)) (cause-number (c .before .before .got2 .given .0 .0))); within = tt; full = c .before .before .before .before .before .pre .0 }
+returns-3 c = record { told = rw (c .before .before .got2 .given .1, c .cause-of .ensures) (ap (λ (n : ℕ). some (refused n)) (cause-number (c .before .before .got2 .given .0 .0))); within = tt; whole = tt; full = c .before .before .before .before .before .pre .0 }
 
 pub judge-in-spec : {M : Type 1} → statement M
 judge-in-spec =

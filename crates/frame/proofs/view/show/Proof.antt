@@ -1,5 +1,5 @@
--- `view::show` meets its contract: a walk of its MIR, by hand. Three covered functions are called, and the struct is made of what two of them
--- give. All that the proof knows of the three is that each meets its contract.
+-- `view::show` meets its contract: a walk of its MIR, by hand. Four covered functions are called, and the struct is made of what three of
+-- them give. All that the proof knows of the four is that each meets its contract.
 -- A `&[u8]` is Copy, so what it owns is had again for each call and for the exit.
 use mathlib.Core.Path.{_≡_, refl, ap}
 use Prim.Native.Nat.{ℕ, _<_, _^_}
@@ -50,7 +50,7 @@ use Rattle.frame.proofs.checks.judge.Symbol.{name as #checks·judge}
 use Rattle.frame.proofs.checks.judge.Met as judge-thm
 use Rattle.frame.specs.declared.view.View.{View}
 use Rattle.frame.specs.View.{Shows}
-use Rattle.frame.specs.Judgements.{commandIn, partIn}
+use Rattle.frame.specs.Judgements.{commandIn, partIn, refusalIn}
 use Rattle.frame.proofs.view.Laws.{shown}
 use Rattle.frame.proofs.view.View as T
 use Rattle.frame.proofs.view.View.Laws as T′
@@ -62,6 +62,10 @@ use Rattle.frame.proofs.view.part_of as part-of
 use Rattle.frame.proofs.view.part_of.Symbol as part-of-def
 use Rattle.frame.proofs.view.part_of.Symbol.{name as #view·part-of}
 use Rattle.frame.proofs.view.part_of.Met as part-of-thm
+use Rattle.frame.proofs.view.refusal_of as refusal-of
+use Rattle.frame.proofs.view.refusal_of.Symbol as refusal-of-def
+use Rattle.frame.proofs.view.refusal_of.Symbol.{name as #view·refusal-of}
+use Rattle.frame.proofs.view.refusal_of.Met as refusal-of-thm
 use Rattle.frame.proofs.view.show.Key.{name as #view·show}
 use Rattle.frame.proofs.view.show as show
 use Rattle.frame.proofs.view.show.Statement as stated
@@ -81,6 +85,9 @@ module _ {M : Type 1} (𝓤 : URA M) (H : Heap 𝓤) (A : Atoms 𝓤) (mem : Mem
   abbrev PartOf : Contract 𝓤
   PartOf = tripleOf 𝓤 H A part-of.signature (part-of.spec 𝓤 H A mem run)
 
+  abbrev RefusalOf : Contract 𝓤
+  RefusalOf = tripleOf 𝓤 H A refusal-of.signature (refusal-of.spec 𝓤 H A mem run)
+
 module _ {M : Type 1} (𝓤 : URA M) (H : Heap 𝓤) (A : Atoms 𝓤) (W : Given 𝓤 H A) (mem : Memory → SProp 𝓤) (run : Routine → Fun 𝓤) (κ : Lft) (q : Share) (s : RefT (List ℕ)) where
   abbrev α : NamedLft
   α = namedLft 1 0 tt (κ, tt)
@@ -89,8 +96,8 @@ module _ {M : Type 1} (𝓤 : URA M) (H : Heap 𝓤) (A : Atoms 𝓤) (W : Given
   abbrev val : RefT (List ℕ) → Val
   val x = sliceVal (x .ptr) (length (x .now))
 
-  abbrev made : ℕ → RefT (List ℕ) → View
-  made c d = record { command = c; «data» = d }
+  abbrev made : ℕ → RefT (List ℕ) → ℕ → View
+  made c d n = record { command = c; «data» = d; refusal = n }
 
   abbrev Post : Val → SProp 𝓤
   Post = walkOf 𝓤 H A show.ended stayed (show.clauses 𝓤 H A mem run) .post (((κ, tt), (q, tt), tt, (s, tt), (val s ∷ [], tt)), tt)
@@ -141,59 +148,78 @@ module _ {M : Type 1} (𝓤 : URA M) (H : Heap 𝓤) (A : Atoms 𝓤) (W : Given
   part-said : (j : Judged) (d : RefT (List ℕ)) → ent 𝓤 (ensured 𝓤 H A part-of.ended (part-of.clauses 𝓤 H A mem run) (κ, tt) (s, (j, tt)) tt d) (fact 𝓤 (partIn s j d))
   part-said j d = exE 𝓤 _ (λ ws. snd∗ 𝓤 (sem 𝓤 H A (lasts part-of.ended (κ, tt) (s, (j, tt)) ws)) (fact 𝓤 (partIn s j d)))
 
-  exits : (c : ℕ) (d : RefT (List ℕ)) → c < 2 ^ 16 → Shows (defined.judge (now s)) s (made c d)
-      → ent 𝓤 (⋆ 𝓤 H A (‵ (ShrSlice (named 0) κ u8 .own d (val d ∷ [])) ∷ (‵ (flft κ q) ⊛ ‵ ftrue) ∷ ‵ Own ∷ [])) (Post (T′.lowered (made c d)))
-  exits c d fits e =
-      qed W (‵ (ShrSlice (named 0) κ u8 .own d (val d ∷ [])) ∷ (‵ (flft κ q) ⊛ ‵ ftrue) ∷ ‵ Own ∷ []) ∵
-      suffices ! _ (ends-at 𝓤 H A show.ended stayed (show.clauses 𝓤 H A mem run) W (((κ, tt), (q, tt), tt, (s, tt), (val s ∷ [], tt)), tt) (T′.lowered (made c d)) (made c d) (tt, tt) (tt, tt)) $ says ! e $
-      move ! (1 ∷ []) $ frame ! $ nothing ! $ move ! (2 ∷ 0 ∷ []) $ fjoin ! $ frame ! $
-      -- [what the part owns]: with the number's facts, what the struct owns
-      nothing ! $ move ! (1 ∷ 0 ∷ []) $ fjoin ! $ owned ! u16 (Is u16) (uint-makes 𝓤 H A W w16) c _ (refl, fits) $ fjoin ! $ by ! (own-shut 𝓤 H A W (T.the-type α) (T′.the-laws α) (c, (d, tt)))
+  -- the call of `refusal_of`
+  abbrev to-refusal : Judged → Val → RefusalOf 𝓤 H A mem run .Ghost
+  to-refusal j u = ((tt, tt, tt, (j, tt), (u ∷ [], tt)), tt)
 
-  module _ (C : Calls 𝓤 H) (Λ : Loops 𝓤 H) (fm : FmC 𝓤 H (W .laws) C) (known-judge : Triple 𝓤 (C #checks·judge) (Judge 𝓤 H A mem run)) (known-command : Triple 𝓤 (C #view·command-of) (CommandOf 𝓤 H A mem run)) (known-part : Triple 𝓤 (C #view·part-of) (PartOf 𝓤 H A mem run)) where
+  goes-refusal : (j : Judged) (u : Val) → ent 𝓤 (sem 𝓤 H A (J.the-row .own j (u ∷ []))) (RefusalOf 𝓤 H A mem run .pre (to-refusal j u))
+  goes-refusal j u = qed W (‵ (J.the-row .own j (u ∷ [])) ∷ []) ∵ nothing ! $ move ! (1 ∷ 0 ∷ []) $ join ! $ nothing ! $ join ! $ frame ! $ done !
+
+  refusal-said : (j : Judged) (n : ℕ) → ent 𝓤 (ensured 𝓤 H A refusal-of.ended (refusal-of.clauses 𝓤 H A mem run) tt (j, tt) tt n) (fact 𝓤 (n ≡ refusalIn j))
+  refusal-said j n = exE 𝓤 _ (λ ws. snd∗ 𝓤 (sem 𝓤 H A (lasts refusal-of.ended tt (j, tt) ws)) (fact 𝓤 (n ≡ refusalIn j)))
+
+  exits : (c : ℕ) (d : RefT (List ℕ)) (n : ℕ) → c < 2 ^ 16 → n < 2 ^ 8 → Shows (defined.judge (now s)) s (made c d n)
+      → ent 𝓤 (⋆ 𝓤 H A (‵ (ShrSlice (named 0) κ u8 .own d (val d ∷ [])) ∷ (‵ (flft κ q) ⊛ ‵ ftrue) ∷ ‵ Own ∷ [])) (Post (T′.lowered (made c d n)))
+  exits c d n fits fits-n e =
+      qed W (‵ (ShrSlice (named 0) κ u8 .own d (val d ∷ [])) ∷ (‵ (flft κ q) ⊛ ‵ ftrue) ∷ ‵ Own ∷ []) ∵
+      suffices ! _ (ends-at 𝓤 H A show.ended stayed (show.clauses 𝓤 H A mem run) W (((κ, tt), (q, tt), tt, (s, tt), (val s ∷ [], tt)), tt) (T′.lowered (made c d n)) (made c d n) (tt, tt) (tt, tt)) $ says ! e $
+      move ! (1 ∷ []) $ frame ! $ nothing ! $ move ! (2 ∷ 0 ∷ []) $ fjoin ! $ frame ! $
+      -- [what the part owns]: with the numbers' facts, what the struct owns
+      nothing ! $ owned ! u8 (Is u8) (uint-makes 𝓤 H A W w8) n _ (refl, fits-n) $ fjoin ! $ move ! (1 ∷ 0 ∷ []) $ fjoin ! $ owned ! u16 (Is u16) (uint-makes 𝓤 H A W w16) c _ (refl, fits) $ fjoin ! $
+      by ! (own-shut 𝓤 H A W (T.the-type α) (T′.the-laws α) (c, (d, (n, tt))))
+
+  module _ (C : Calls 𝓤 H) (Λ : Loops 𝓤 H) (fm : FmC 𝓤 H (W .laws) C) (known-judge : Triple 𝓤 (C #checks·judge) (Judge 𝓤 H A mem run)) (known-command : Triple 𝓤 (C #view·command-of) (CommandOf 𝓤 H A mem run)) (known-part : Triple 𝓤 (C #view·part-of) (PartOf 𝓤 H A mem run)) (known-refusal : Triple 𝓤 (C #view·refusal-of) (RefusalOf 𝓤 H A mem run)) where
     walk : Is (ShrSlice (named 0) κ u8) s (val s ∷ []) → ent 𝓤 (onEntry 𝓤 H A show.signature (κ, tt) (q, tt) (s, tt) (val s ∷ [], tt)) (WpFn 𝓤 H C Λ code.function (val s ∷ []) Post)
     walk p =
         qed W (raw (onEntry 𝓤 H A show.signature (κ, tt) (q, tt) (s, tt) (val s ∷ [], tt)) ∷ []) ∵ enter ! C Λ code.function (val s ∷ []) _ $
-        alloc1 ! (λ l₀. alloc1 ! (λ l₁. alloc1 ! (λ l₂. alloc1 ! (λ l₃. alloc1 ! (λ l₄. alloc0 ! $ params1 ! $ pass1 ! (init ! 6 refl (shr-slice-lawful 𝓤 H A W (named 0) κ u8 .typed s (val s ∷ []) p .0)) $ pass0 ! $
-        move ! (10 ∷ []) $ use1 W (raw (Judge 𝓤 H A mem run .pre to-judge) ⊛ ‵ Own) goes-judge $ split ! $
-        calls-at ! fm (Judge 𝓤 H A mem run) known-judge to-judge (and-then ! (load ! (from ! (stop !)) (look ! 8 refl)) (no-more !)) (λ u.
+        alloc1 ! (λ l₀. alloc1 ! (λ l₁. alloc1 ! (λ l₂. alloc1 ! (λ l₃. alloc1 ! (λ l₄. alloc1 ! (λ l₅. alloc0 ! $ params1 ! $ pass1 ! (init ! 8 refl (shr-slice-lawful 𝓤 H A W (named 0) κ u8 .typed s (val s ∷ []) p .0)) $ pass0 ! $
+        move ! (12 ∷ []) $ use1 W (raw (Judge 𝓤 H A mem run .pre to-judge) ⊛ ‵ Own) goes-judge $ split ! $
+        calls-at ! fm (Judge 𝓤 H A mem run) known-judge to-judge (and-then ! (load ! (from ! (stop !)) (look ! 10 refl)) (no-more !)) (λ u.
         use1 W (later (some (λ (j : Judged). ((‵ (flft κ q) ⊛ ‵ ftrue) ⊛ ‵ (J.the-row .own j (u ∷ []))) ⊛ raw (ensured 𝓤 H A judge.ended (judge.clauses 𝓤 H A mem run) (κ, tt) (s, tt) tt j)))) (id⊢ 𝓤 _) $ await ! tt $ pick ! (λ j.
         split ! $ move ! (1 ∷ []) $ use1 W (raw (fact 𝓤 (Judges-s j))) (judge-said j) $ heard ! (Judges-s j) (λ e₁. split ! $ move ! (1 ∷ []) $
-        -- [what the judgement owns; the token; what s owns; room for _4; …; room for _3; …; room for _2; …; _1; …; room for _0; …]
+        -- [what the judgement owns; the token; what s owns; room for _5; …; room for _4; …; room for _3; …; room for _2; …; _1; …; room for _0; …]
         peeks ! J.the-row (Is J.the-row) (shows 𝓤 H A J.the-row) j (u ∷ []) (λ is-j.
-        land ! (from ! (stop !)) (init ! 7 refl (EL.lawful J.the-type J′.the-laws 𝓤 H A W tt .typed j _ is-j .0)) $
+        land ! (from ! (stop !)) (init ! 9 refl (EL.lawful J.the-type J′.the-laws 𝓤 H A W tt .typed j _ is-j .0)) $
         use1 W (raw (CommandOf 𝓤 H A mem run .pre (to-command j u))) (goes-command j u) $
-        calls-at ! fm (CommandOf 𝓤 H A mem run) known-command (to-command j u) (and-then ! (load ! (from ! (stop !)) (look ! 7 refl)) (no-more !)) (λ u₂.
+        calls-at ! fm (CommandOf 𝓤 H A mem run) known-command (to-command j u) (and-then ! (load ! (from ! (stop !)) (look ! 9 refl)) (no-more !)) (λ u₂.
         use1 W (later (some (λ (c : ℕ). (‵ ftrue ⊛ ‵ (u16 .own c (u₂ ∷ []))) ⊛ raw (ensured 𝓤 H A command-of.ended (command-of.clauses 𝓤 H A mem run) tt (j, tt) tt c)))) (id⊢ 𝓤 _) $ await ! tt $ pick ! (λ c.
         split ! $ move ! (1 ∷ []) $ use1 W (raw (fact 𝓤 (c ≡ commandIn j))) (command-said j c) $ heard ! (c ≡ commandIn j) (λ e₂. split ! $ drop ! $
-        -- [what the number owns; the token; what s owns; room for _4; …; room for _3; …; _2; …; _1; …; room for _0; …]
+        -- [what the number owns; the token; what s owns; room for _5; …; room for _4; …; room for _3; …; _2; …; _1; …; room for _0; …]
         peeks ! u16 (Is u16) (shows 𝓤 H A u16) c (u₂ ∷ []) (λ is-c.
-        land ! (from ! (stop !)) (init ! 5 refl (uint-lawful 𝓤 H A W w16 .typed c _ is-c .0)) $ rewrite ! 5 (λ (v : Val). ‵ (fat fullShare (tyInt w16) l₃ 0 v)) (ap only (is-c .0)) refl $ drop ! $
+        land ! (from ! (stop !)) (init ! 7 refl (uint-lawful 𝓤 H A W w16 .typed c _ is-c .0)) $ rewrite ! 7 (λ (v : Val). ‵ (fat fullShare (tyInt w16) l₃ 0 v)) (ap only (is-c .0)) refl $ drop ! $
         use2 W (raw (PartOf 𝓤 H A mem run .pre (to-part j u)) ⊛ ‵ Own) (goes-part j u is-j (e₁ .within)) $ split ! $
-        calls-at ! fm (PartOf 𝓤 H A mem run) known-part (to-part j u) (and-then ! (load ! (from ! (stop !)) (look ! 8 refl)) (and-then ! (load ! (from ! (stop !)) (look ! 6 refl)) (no-more !))) (λ u₃.
+        calls-at ! fm (PartOf 𝓤 H A mem run) known-part (to-part j u) (and-then ! (load ! (from ! (stop !)) (look ! 10 refl)) (and-then ! (load ! (from ! (stop !)) (look ! 8 refl)) (no-more !))) (λ u₃.
         use1 W (later (some (λ (d : RefT (List ℕ)). ((‵ (flft κ q) ⊛ ‵ ftrue) ⊛ ‵ (ShrSlice (named 0) κ u8 .own d (u₃ ∷ []))) ⊛ raw (ensured 𝓤 H A part-of.ended (part-of.clauses 𝓤 H A mem run) (κ, tt) (s, (j, tt)) tt d)))) (id⊢ 𝓤 _) $ await ! tt $ pick ! (λ d.
         split ! $ move ! (1 ∷ []) $ use1 W (raw (fact 𝓤 (partIn s j d))) (part-said j d) $ heard ! (partIn s j d) (λ e₃. split ! $ move ! (1 ∷ []) $
-        -- [what the part owns; the token; what s owns; room for _4; …; _3; …; _2; …; _1; …; room for _0; …]
+        -- [what the part owns; the token; what s owns; room for _5; …; room for _4; …; _3; …; _2; …; _1; …; room for _0; …]
         peeks ! (ShrSlice (named 0) κ u8) (Is (ShrSlice (named 0) κ u8)) (shows 𝓤 H A (ShrSlice (named 0) κ u8)) d (u₃ ∷ []) (λ is-d.
-        land ! (from ! (stop !)) (init ! 3 refl (shr-slice-lawful 𝓤 H A W erased κ u8 .typed d (u₃ ∷ []) is-d .0)) $
-        rewrite ! 3 (λ (v : Val). ‵ (fat fullShare (sliceTy (tyRef erased imm (tyInt w8))) l₄ 0 v)) (ap only (shr-slice-tells (named 0) κ u8 d (u₃ ∷ []) is-d)) refl $
+        land ! (from ! (stop !)) (init ! 5 refl (shr-slice-lawful 𝓤 H A W erased κ u8 .typed d (u₃ ∷ []) is-d .0)) $
+        rewrite ! 5 (λ (v : Val). ‵ (fat fullShare (sliceTy (tyRef erased imm (tyInt w8))) l₄ 0 v)) (ap only (shr-slice-tells (named 0) κ u8 d (u₃ ∷ []) is-d)) refl $
         rewrite ! 0 (λ (vs : List Val). ‵ (ShrSlice (named 0) κ u8 .own d vs)) (shr-slice-tells (named 0) κ u8 d (u₃ ∷ []) is-d) refl $
-        assigns ! (agg ! (and-then ! (load ! (from ! (stop !)) (look ! 5 refl)) (and-then ! (load ! (from ! (stop !)) (look ! 3 refl)) (no-more !)))) (from ! (stop !)) (init ! 11 refl (tt, (record { fits = is-c .1 }, ((tt, (record { fits = is-d .0 .1 .0 }, tt)), tt)))) $
-        returns ! (look ! 11 refl) $ forget ! 3 refl $ forget ! 5 refl $ forget ! 7 refl $ forget ! 9 refl $ forget ! 11 refl $
-        move ! (11 ∷ 12 ∷ []) $ free1 ! $ move ! (9 ∷ 10 ∷ []) $ free1 ! $ move ! (7 ∷ 8 ∷ []) $ free1 ! $ move ! (5 ∷ 6 ∷ []) $ free1 ! $ move ! (3 ∷ 4 ∷ []) $ free1 ! $ free0 ! $
-        by ! (exits c d (is-c .1) (shown s j c d e₁ e₂ e₃)))))))))))))))))))
+        owned ! J.the-row (Is J.the-row) (EL.makes J.the-type J′.the-plain 𝓤 H A) j _ is-j $ use1 W (raw (RefusalOf 𝓤 H A mem run .pre (to-refusal j u))) (goes-refusal j u) $
+        calls-at ! fm (RefusalOf 𝓤 H A mem run) known-refusal (to-refusal j u) (and-then ! (load ! (from ! (stop !)) (look ! 10 refl)) (no-more !)) (λ u₄.
+        use1 W (later (some (λ (n : ℕ). (‵ ftrue ⊛ ‵ (u8 .own n (u₄ ∷ []))) ⊛ raw (ensured 𝓤 H A refusal-of.ended (refusal-of.clauses 𝓤 H A mem run) tt (j, tt) tt n)))) (id⊢ 𝓤 _) $ await ! tt $ pick ! (λ n.
+        split ! $ move ! (1 ∷ []) $ use1 W (raw (fact 𝓤 (n ≡ refusalIn j))) (refusal-said j n) $ heard ! (n ≡ refusalIn j) (λ e₄. split ! $ drop ! $
+        -- [what the number owns; what the part owns; the token; what s owns; room for _5; …; _4; …; _3; …; _2; …; _1; …; room for _0; …]
+        peeks ! u8 (Is u8) (shows 𝓤 H A u8) n (u₄ ∷ []) (λ is-n.
+        land ! (from ! (stop !)) (init ! 4 refl (uint-lawful 𝓤 H A W w8 .typed n _ is-n .0)) $ rewrite ! 4 (λ (v : Val). ‵ (fat fullShare (tyInt w8) l₅ 0 v)) (ap only (is-n .0)) refl $ drop ! $
+        assigns ! (agg ! (and-then ! (load ! (from ! (stop !)) (look ! 7 refl)) (and-then ! (load ! (from ! (stop !)) (look ! 5 refl)) (and-then ! (load ! (from ! (stop !)) (look ! 3 refl)) (no-more !))))) (from ! (stop !))
+        (init ! 13 refl (tt, (record { fits = is-c .1 }, ((tt, (record { fits = is-d .0 .1 .0 }, tt)), (record { fits = is-n .1 }, tt))))) $
+        returns ! (look ! 13 refl) $ forget ! 3 refl $ forget ! 5 refl $ forget ! 7 refl $ forget ! 9 refl $ forget ! 11 refl $ forget ! 13 refl $
+        move ! (13 ∷ 14 ∷ []) $ free1 ! $ move ! (11 ∷ 12 ∷ []) $ free1 ! $ move ! (9 ∷ 10 ∷ []) $ free1 ! $ move ! (7 ∷ 8 ∷ []) $ free1 ! $ move ! (5 ∷ 6 ∷ []) $ free1 ! $ move ! (3 ∷ 4 ∷ []) $ free1 ! $ free0 ! $
+        by ! (exits c d n (is-c .1) (is-n .1) (shown s j c d n e₁ e₂ e₃ e₄))))))))))))))))))))))))
 
 module _ {M : Type 1} (𝓤 : URA M) (H : Heap 𝓤) (A : Atoms 𝓤) (W : Given 𝓤 H A) (mem : Memory → SProp 𝓤) (run : Routine → Fun 𝓤) where
-  show-walks : (C : Calls 𝓤 H) (Λ : Loops 𝓤 H) → FmC 𝓤 H (W .laws) C → Triple 𝓤 (C #checks·judge) (Judge 𝓤 H A mem run) → Triple 𝓤 (C #view·command-of) (CommandOf 𝓤 H A mem run) → Triple 𝓤 (C #view·part-of) (PartOf 𝓤 H A mem run)
+  show-walks : (C : Calls 𝓤 H) (Λ : Loops 𝓤 H) → FmC 𝓤 H (W .laws) C → Triple 𝓤 (C #checks·judge) (Judge 𝓤 H A mem run) → Triple 𝓤 (C #view·command-of) (CommandOf 𝓤 H A mem run) → Triple 𝓤 (C #view·part-of) (PartOf 𝓤 H A mem run) → Triple 𝓤 (C #view·refusal-of) (RefusalOf 𝓤 H A mem run)
       → Walks 𝓤 H A show.ended stayed (WpFn 𝓤 H C Λ code.function) (show.clauses 𝓤 H A mem run)
-  show-walks C Λ fm known-judge known-command known-part = walked 𝓤 H A show.ended stayed (show.clauses 𝓤 H A mem run) (WpFn 𝓤 H C Λ code.function) (λ κs. (slice-vals, tt)) (λ κs. (shr-slice-tells (named 0) (κs .0) u8, tt))
-      (λ κs qs bounds a g are. via 𝓤 _ (fst∗ 𝓤 _ (emp 𝓤)) (walk 𝓤 H A W mem run (κs .0) (qs .0) (a .0) C Λ fm known-judge known-command known-part (are .0)))
+  show-walks C Λ fm known-judge known-command known-part known-refusal = walked 𝓤 H A show.ended stayed (show.clauses 𝓤 H A mem run) (WpFn 𝓤 H C Λ code.function) (λ κs. (slice-vals, tt)) (λ κs. (shr-slice-tells (named 0) (κs .0) u8, tt))
+      (λ κs qs bounds a g are. via 𝓤 _ (fst∗ 𝓤 _ (emp 𝓤)) (walk 𝓤 H A W mem run (κs .0) (qs .0) (a .0) C Λ fm known-judge known-command known-part known-refusal (are .0)))
 
 show-meets : {M : Type 1} (𝓤 : URA M) (H : Heap 𝓤) (A : Atoms 𝓤) (W : Given 𝓤 H A) (mem : Memory → SProp 𝓤) (run : Routine → Fun 𝓤) (𝓣 : Tables 𝓤 H)
-    → Triple 𝓤 (𝓣 .C #checks·judge) (Judge 𝓤 H A mem run) → Triple 𝓤 (𝓣 .C #view·command-of) (CommandOf 𝓤 H A mem run) → Triple 𝓤 (𝓣 .C #view·part-of) (PartOf 𝓤 H A mem run)
+    → Triple 𝓤 (𝓣 .C #checks·judge) (Judge 𝓤 H A mem run) → Triple 𝓤 (𝓣 .C #view·command-of) (CommandOf 𝓤 H A mem run) → Triple 𝓤 (𝓣 .C #view·part-of) (PartOf 𝓤 H A mem run) → Triple 𝓤 (𝓣 .C #view·refusal-of) (RefusalOf 𝓤 H A mem run)
     → Meets 𝓤 H A show.signature (WpFn 𝓤 H (𝓣 .C) (𝓣 .Λ) code.function) (show.spec 𝓤 H A mem run)
-show-meets 𝓤 H A W mem run 𝓣 known-judge known-command known-part = walk-meets 𝓤 H A show.ended stayed W (goes-none-slice 𝓤 H A W 1 (0 ∷ []) tt (plain (λ _. u8)) yes, tt) (show.clauses 𝓤 H A mem run) (WpFn 𝓤 H (𝓣 .C) (𝓣 .Λ) code.function) (WpFn-mono 𝓤 H (W .laws) 𝓣 code.function)
-    (show-walks 𝓤 H A W mem run (𝓣 .C) (𝓣 .Λ) (fmOf 𝓤 H (W .laws) 𝓣) known-judge known-command known-part)
+show-meets 𝓤 H A W mem run 𝓣 known-judge known-command known-part known-refusal = walk-meets 𝓤 H A show.ended stayed W (goes-none-slice 𝓤 H A W 1 (0 ∷ []) tt (plain (λ _. u8)) yes, tt) (show.clauses 𝓤 H A mem run) (WpFn 𝓤 H (𝓣 .C) (𝓣 .Λ) code.function) (WpFn-mono 𝓤 H (W .laws) 𝓣 code.function)
+    (show-walks 𝓤 H A W mem run (𝓣 .C) (𝓣 .Λ) (fmOf 𝓤 H (W .laws) 𝓣) known-judge known-command known-part known-refusal)
 
 pub show-spec : {M : Type 1} → stated.statement M
 unfolding code.routine tablesOf
@@ -203,4 +229,5 @@ show-spec 𝓤 H 𝓜 𝓖 𝓡 =
     (show-meets 𝓤 H (𝓖 .A) (givenOf 𝓤 H 𝓜 𝓖) (𝓜 .mem) (𝓡 .run) (tablesOf 𝓤 H 𝓜 (tables 𝓤 H 𝓜 𝓡 code.env))
     (cited 𝓤 H (Judge 𝓤 H (𝓖 .A) (𝓜 .mem) (𝓡 .run)) 𝓜 𝓡 code.env #checks·judge judge-def.routine code.calls-frame·checks·judge (judge-thm.met 𝓤 H 𝓜 𝓖 𝓡))
     (cited 𝓤 H (CommandOf 𝓤 H (𝓖 .A) (𝓜 .mem) (𝓡 .run)) 𝓜 𝓡 code.env #view·command-of command-of-def.routine code.calls-frame·view·command-of (command-of-thm.met 𝓤 H 𝓜 𝓖 𝓡))
-    (cited 𝓤 H (PartOf 𝓤 H (𝓖 .A) (𝓜 .mem) (𝓡 .run)) 𝓜 𝓡 code.env #view·part-of part-of-def.routine code.calls-frame·view·part-of (part-of-thm.met 𝓤 H 𝓜 𝓖 𝓡)))
+    (cited 𝓤 H (PartOf 𝓤 H (𝓖 .A) (𝓜 .mem) (𝓡 .run)) 𝓜 𝓡 code.env #view·part-of part-of-def.routine code.calls-frame·view·part-of (part-of-thm.met 𝓤 H 𝓜 𝓖 𝓡))
+    (cited 𝓤 H (RefusalOf 𝓤 H (𝓖 .A) (𝓜 .mem) (𝓡 .run)) 𝓜 𝓡 code.env #view·refusal-of refusal-of-def.routine code.calls-frame·view·refusal-of (refusal-of-thm.met 𝓤 H 𝓜 𝓖 𝓡)))

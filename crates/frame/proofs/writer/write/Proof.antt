@@ -5,9 +5,8 @@ use native.Mathlib.Omega.{arith}
 use lib.ListN.{length}
 use borrow.Author.Tests.{lt-ltb, le-ltb}
 use Rattle.memory.specs.WroteLaws.{front}
-use Rattle.frame.specs.declared.Written.the-variants as written
 use Rattle.frame.specs.Frame.{wire}
-use Rattle.frame.specs.Writer.{write}
+use Rattle.frame.specs.Writer.{upTo, write}
 use Rattle.frame.specs.WireLaws.{wire-fits}
 use borrow.Author.Needs.{needs}
 use Rattle.frame.proofs.writer.write.Statement.{statement}
@@ -32,7 +31,7 @@ unfolding write
 returns-3 c =
     let w = c .before .before .put-wire .ensures in
     let h : length (wire (c .before .before .before .before .before .before .before .before .args .command) (c .before .before .before .before .before .before .before .before .args .payload .now)) ≤ length (c .before .before .before .before .before .before .before .before .args .room .now) = omega (arith, wire-fits (c .before .before .before .before .before .before .before .before .args .command) (c .before .before .before .before .before .before .before .before .args .payload .now) (c .before .before .before .before .if2 .left)) in
-    simp (le-ltb _ _ (c .before .before .before .before .before .if1 .left), le-ltb _ _ (c .before .before .before .before .if2 .left)) (record { answer = ap written.Length (w .place ∙ zero-add _); room = w .content ∙ front (c .before .before .before .before .before .before .before .before .args .room .now) (wire (c .before .before .before .before .before .before .before .before .args .command) (c .before .before .before .before .before .before .before .before .args .payload .now)) h })
+    simp (le-ltb _ _ (c .before .before .before .before .before .if1 .left), le-ltb _ _ (c .before .before .before .before .if2 .left)) (record { answer = ap upTo (w .place ∙ zero-add _); room = w .content ∙ front (c .before .before .before .before .before .before .before .before .args .room .now) (wire (c .before .before .before .before .before .before .before .before .args .command) (c .before .before .before .before .before .before .before .before .args .payload .now)) h })
 
 pub write-spec : {M : Type 1} → statement M
 write-spec = tie.close (tie.spec returns returns-2 put-wire-requires same-length returns-3)

@@ -4,9 +4,8 @@ use native.Mathlib.Omega.{arith}
 use lib.ListN.{length}
 use lib.Seq.{sets-eq}
 use borrow.Author.Tests.{lt-ltb, le-ltb}
-use Rattle.frame.specs.declared.WrittenAt.the-variants as at
 use Rattle.frame.specs.Frame.{wire}
-use Rattle.frame.specs.Writer.{writeAt}
+use Rattle.frame.specs.Writer.{upTo, writeAt}
 use borrow.Author.Needs.{needs}
 use Rattle.frame.proofs.writer.write_at.Statement.{statement}
 use Rattle.frame.proofs.writer.write_at.Tie as tie
@@ -49,7 +48,7 @@ returns-4 : tie.Need-returns-4
 unfolding writeAt
 returns-4 c =
     let w = c .before .before .put-wire .ensures in
-    simp (le-ltb _ _ (c .before .before .before .before .before .before .before .if1 .left), le-ltb _ _ (fitting (c .before .before .before .before))) (record { answer = ap at.UpTo (w .place); room = w .content ∙ sets-eq _ _ _ (fitting (c .before .before .before .before)) })
+    simp (le-ltb _ _ (c .before .before .before .before .before .before .before .if1 .left), le-ltb _ _ (fitting (c .before .before .before .before))) (record { answer = ap upTo (w .place); room = w .content ∙ sets-eq _ _ _ (fitting (c .before .before .before .before)) })
 
 pub write-at-spec : {M : Type 1} → statement M
 write-at-spec =
