@@ -4,6 +4,7 @@ use mathlib.Core.Path.{_≡_}
 use mathlib.Core.List.{List, [], _∷_, _++_}
 use mathlib.Core.Option.{Option, none}
 use lib.ListN.{length, take, drop}
+use Rattle.line.specs.declared.Fault.{Fault}
 use Rattle.line.specs.declared.Mode.{Mode}
 use Rattle.line.specs.declared.Mode.the-variants.{Plain, Escaped, Skipping}
 use Rattle.line.specs.declared.PacketOutcome.{PacketOutcome as Given}
@@ -38,6 +39,11 @@ pub record Runs (m : Mode) (bs : List ℕ) (n : ℕ) (w : List ℕ) (i : ℕ) (c
   pub within : i + k ≤ length w
   pub full : length cs ≡ limit
   pub clear : Clear m n → Clear m (n + k)
+
+-- `skip_run`: from the byte i on, k more bytes are skipped, whatever the piece is settled for
+pub record Skips (w : List ℕ) (i k : ℕ) : Type 0 where
+  pub read : (f : Fault) → read (skipping f) (drop i w) ≡ ahead k (read (skipping f) (drop (i + k) w))
+  pub within : i + k ≤ length w
 
 -- what an action makes of the bytes held
 abbrev pub acted : List ℕ → Action → State × Option Outcome

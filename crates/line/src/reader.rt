@@ -6,7 +6,7 @@ ghost use lib.ListN.{length};
 ghost use Rattle.line.specs.declared.Mode.the-variants.{Plain};
 ghost use Rattle.line.specs.Reader.{limit, read};
 ghost use Rattle.line.specs.Answers.{emptiedReading, taken, takenAs, answerOf, Answers};
-ghost use Rattle.line.specs.Step.{toldAt, Runs};
+ghost use Rattle.line.specs.Step.{toldAt, Runs, Skips};
 use crate::END;
 use crate::ESC;
 use crate::LIMIT;
@@ -67,6 +67,7 @@ pub fn read_in(bytes: &mut [u8; LIMIT], place: Place, wire: &[u8]) -> PacketAt
             Action::Skip(f) => {
                 count = 0;
                 mode = Mode::Skipping(f);
+                i += skip_run(wire, i);
             }
             Action::Give(outcome) => {
                 return told_at(i, outcome, 0, Mode::Plain);
@@ -132,6 +133,21 @@ fn copy_run(bytes: &mut [u8], count: usize, wire: &[u8], at: usize) -> usize
             return run;
         }
         bytes[count + run] = b;
+        run += 1;
+    }
+    run
+}
+
+// How many bytes from `at` on are skipped in a settled piece: those before its END.
+fn skip_run(wire: &[u8], at: usize) -> usize
+    requires { ⌜ at ≤ length (now wire) ⌝ }
+    ensures { λ r. ⌜ Skips (now (wire .entry)) at r ⌝ }
+{
+    let mut run = 0;
+    while at + run < wire.len() {
+        if wire[at + run] == END {
+            return run;
+        }
         run += 1;
     }
     run

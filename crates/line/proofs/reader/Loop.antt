@@ -9,6 +9,7 @@ use native.Mathlib.Omega.{arith}
 use lib.ListN.{length, take, drop, set, getD, length-set, drop-of-length-le}
 use lib.Seq.{length-take-le, take-take, take-suc-set, drop-cons}
 use borrow.Author.Tests.{lt-ltb, ne-eqb}
+use Rattle.line.specs.declared.Fault.{Fault}
 use Rattle.line.specs.declared.Mode.{Mode}
 use Rattle.line.specs.declared.Mode.the-variants.{Plain, Escaped, Skipping}
 use Rattle.line.specs.declared.PacketOutcome.{PacketOutcome as Given}
@@ -16,9 +17,9 @@ use Rattle.line.specs.declared.PacketOutcome.the-variants.{Nothing, Pack
 use Rattle.line.specs.declared.step.Action.the-variants.{Keep, Give}
 use Rattle.line.specs.Wire.{END, ESC}
 use Rattle.line.specs.Scan.{Scan, onward, ahead, scan}
-use Rattle.line.specs.Reader.{limit, State, plain, emptied, Outcome, packet, decoded, inner, step, read}
+use Rattle.line.specs.Reader.{limit, State, plain, skipping, emptied, Outcome, packet, decoded, inner, step, read}
 use Rattle.line.specs.Answers.{told, Within, Clear}
-use Rattle.line.specs.Step.{Runs, acted, Fits}
+use Rattle.line.specs.Step.{Runs, Skips, acted, Fits}
 
 -- ---- a call on the bytes from i on, for any step
 
@@ -94,6 +95,22 @@ runs-more bs n w i cs k x l p q r =
       full = simp length-set (x .full);
       clear = λ y. tt;
     }
+
+-- ---- a run of skipped bytes
+
+-- a byte that is no END
+pub skip-step : (f : Fault) (b : ℕ) → (b ≡ END → ⊥) → step (skipping f) b ≡ (skipping f, none)
+unfolding step inner
+skip-step f b x = rw (ne-eqb b END x)
+
+pub skips-none : (w : List ℕ) (i : ℕ) → i ≤ length w → Skips w i 0
+skips-none w i l = record { read = λ f. rw (add-zero i, zero-add); within = rw add-zero l }
+
+pub skips-more : (w : List ℕ) (i k : ℕ) → Skips w i k → i + k < length w → (getD w (i + k) 0 ≡ END → ⊥) → Skips w i (k + 1)
+skips-more w i k x l p = record {
+  read = λ f. x .read f ∙ moved step _ w k (i + k) _ l (skip-step f (getD w (i + k) 0) p) ∙ rw (add-assoc i k 1);
+  within = omega arith;
+}
 
 -- ---- an outcome
 

@@ -153,14 +153,20 @@ loop-again-2 c =
 enum-known-f : tie.Need-enum-known-f Inv-loop μ-loop
 enum-known-f c = search needs
 
+skip-run-requires : tie.Need-skip-run-requires Inv-loop μ-loop
+skip-run-requires c κs = let l = c .before .before .before .before .before .if1 .left in omega arith
+
+add-i-3 : tie.Need-add-i-3 Inv-loop μ-loop
+add-i-3 c = let h = c .skip-run .ensures .within in omega arith
+
 loop-less-3 : tie.Need-loop-less-3 Inv-loop μ-loop
-loop-less-3 c = let h = c .before .before .before .before .before .if1 .left in omega arith
+loop-less-3 c = let h = c .before .before .before .before .before .before .if1 .left in omega arith
 
 loop-again-3 : tie.Need-loop-again-3 Inv-loop μ-loop
 loop-again-3 c =
-    let d = c .before .before .before in
-    let l = d .before .before .if1 .left in
-    (omega arith, omega arith, refl, goes-on d _ (c .before .f .given .1) _ refl)
+    let d = c .before .before .before .before in
+    let f = c .before .before .f .given .0 .0 in
+    (c .skip-run .ensures .within, omega arith, refl, goes-on d _ (c .before .before .f .given .1) _ refl ∙ ap (ahead _) (c .skip-run .ensures .read f) ∙ ahead-ahead step _ _ _)
 
 enum-known-outcome : tie.Need-enum-known-outcome Inv-loop μ-loop
 enum-known-outcome c = search needs
@@ -222,6 +228,8 @@ read-in-spec =
     loop-less-2
     loop-again-2
     enum-known-f
+    skip-run-requires
+    add-i-3
     loop-less-3
     loop-again-3
     enum-known-outcome

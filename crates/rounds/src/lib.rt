@@ -1,0 +1,80 @@
+// The bench's rounds: a call of the hub made again and again, for a program in Rust or C to time. Only numbers and lent bytes cross over: hub
+// and record are kept here from round to round, so that their layout is nobody else's matter.
+// It stands on the calls of `hub`. Nothing is promised beside what they promise: the bench compares the last reply, room and table.
+use rules::FeedAnswer;
+use rules::FinishAnswer;
+
+// Feeds on line 0 of a hub before any start: `login` once, then `bytes` in each round. The answer is the length of the last reply.
+#[no_mangle]
+pub extern "C" fn rounds_feed(
+    table: &mut [u8],
+    login: &[u8],
+    bytes: &[u8],
+    room: &mut [u8],
+    rounds: u64,
+) -> usize {
+    let entered = hub::feed_by_value(hub::first(), table, frame::emptied(), 0, login, room);
+    let mut kept = entered.hub;
+    let mut reading = entered.reading;
+    let mut len = 0;
+    let mut left = rounds;
+    while 0 < left {
+        let fed = hub::feed_by_value(kept, table, reading, 0, bytes, room);
+        let next = fed.hub;
+        let after = fed.reading;
+        let answer = fed.answer;
+        kept = next;
+        reading = after;
+        len = fed_len(answer);
+        left -= 1;
+    }
+    len
+}
+
+// The same, with the session of a number finished in each round.
+#[no_mangle]
+pub extern "C" fn rounds_finish(
+    table: &mut [u8],
+    login: &[u8],
+    bytes: &[u8],
+    session: u16,
+    room: &mut [u8],
+    rounds: u64,
+) -> usize {
+    let entered = hub::feed_by_value(hub::first(), table, frame::emptied(), 0, login, room);
+    let mut kept = entered.hub;
+    let mut reading = entered.reading;
+    let mut len = 0;
+    let mut left = rounds;
+    while 0 < left {
+        let fed = hub::feed_by_value(kept, table, reading, 0, bytes, room);
+        let after = fed.reading;
+        reading = after;
+        let finished = hub::finish(fed.hub, session, room);
+        let next = finished.hub;
+        let answer = finished.answer;
+        kept = next;
+        len = finished_len(answer);
+        left -= 1;
+    }
+    len
+}
+
+// The length of the reply that an answer tells.
+fn fed_len(answer: FeedAnswer) -> usize {
+    match answer {
+        FeedAnswer::Told {
+            used: _,
+            outcome: _,
+            len,
+        } => len,
+        FeedAnswer::Refused(_) => 0,
+    }
+}
+
+fn finished_len(answer: FinishAnswer) -> usize {
+    match answer {
+        FinishAnswer::Finished { line: _, len } => len,
+        FinishAnswer::Refused(_) => 0,
+    }
+}
