@@ -1,8 +1,16 @@
 // Boundary cases of frames, run and held to the file stdout: the frame writer at its limits, each frame that it writes read back;
-// packets through their view.
+// packets through their view, those that are accepted from the wire and through a lent record.
+ghost use mathlib.Core.Path.{_≡_};
+ghost use Rattle.frame.specs.Reader.{taken, read};
+ghost use Rattle.frame.specs.Answers.{Answers};
+ghost use Rattle.frame.specs.Lent.{frameAnswer};
+use frame::FrameAnswer;
+use frame::FrameOutcome;
+use frame::FrameTold;
 use frame::Written;
 use frame::WrittenAt;
 use libc::STDOUT_FILENO;
+use line::Reading;
 use text::COLON;
 use text::DATA;
 use text::GAP;
@@ -15,6 +23,7 @@ struct Copied {
     command: u16,
     data: [u8; frame::DATA],
     len: usize,
+    refusal: u8,
 }
 
 // A text longer than this is cut off.
@@ -35,7 +44,11 @@ const FROM: [u8; 14] = *b"room 13, from ";
 
 const ROOM: [u8; 7] = *b", room ";
 
+const WIRE: [u8; 6] = *b" wire ";
+
 const SHOWS: [u8; 7] = *b" shows ";
+
+const REFUSAL: [u8; 9] = *b" refusal ";
 
 const SPILLED: [u8; 8] = *b"spilled\n";
 
@@ -154,14 +167,19 @@ fn show_limits() {
 // What the view of a packet shows.
 fn seen(packet: &[u8]) -> Copied {
     let v = frame::show(packet);
-    shown(frame::command(v), frame::data(v))
+    shown(frame::command(v), frame::data(v), frame::refusal(v))
 }
 
-fn shown(command: u16, payload: &[u8]) -> Copied {
+fn shown(command: u16, payload: &[u8], refusal: u8) -> Copied {
     let mut data = [0u8; frame::DATA];
     memory::copy(&mut data, 0, payload);
     let len = payload.len();
-    Copied { command, data, len }
+    Copied {
+        command,
+        data,
+        len,
+        refusal,
+    }
 }
 
 // A packet, and what its view shows.
@@ -183,23 +201,76 @@ fn show_view(name: &[u8], packet: &[u8]) {
         packet,
         &SHOWS,
     );
-    let end = text::bytes_line(
+    let refusal = text::bytes_line(
         &mut page,
         shows,
         &NOTHING,
         seen.command as u64,
         &DATA,
         &data[0..len],
-        &LINE_END,
+        &REFUSAL,
     );
+    let end = text::append_numbered(&mut page, refusal, &NOTHING, seen.refusal as u64, &LINE_END);
     print(&page, end);
 }
 
-fn show_views() {
-    show_view(b"P3", b"\x00\x03\x00\x01\x02");
-    show_view(b"P4", b"\x00\x05\x02\x06\xC0\x00\xC1");
-    show_view(b"P5", b"\x00\x05\x02\x06\xC1\x00\xC0");
-    show_view(b"P6", b"\x00\x05\x02\x06\xDB\x00\xDA");
+// Wire bytes, read on a record that is lent for the call.
+fn read_lent(reading: Reading, wire: &[u8]) -> FrameAnswer
+    ensures { λ r. ⌜ Answers (read (taken reading) (now (wire .entry))) r ⌝ }
+{
+    let mut lent = reading;
+    let told = frame::read_frame(&mut lent, wire);
+    answer_with(told, lent)
+}
+
+fn answer_with(told: FrameTold, reading: Reading) -> FrameAnswer
+    ensures { λ r. ⌜ r ≡ frameAnswer told reading ⌝ }
+{
+    let used = told.used;
+    let outcome = told.outcome;
+    FrameAnswer {
+        used: used,
+        outcome: outcome,
+        reading: reading,
+    }
+}
+
+// Wire bytes and their outcome; a frame's packet is viewed where it stands in the record's array.
+fn show_wire(name: &[u8], wire: &[u8]) {
+    let answer = read_lent(frame::emptied(), wire);
+    let outcome = answer.outcome;
+    let reading = answer.reading;
+    let bytes = reading.bytes;
+    show_outcome(name, wire, outcome);
+    match outcome {
+        FrameOutcome::Nothing => (),
+        FrameOutcome::Frame { command: _, len } => show_view(name, &bytes[0..len + frame::AROUND]),
+        FrameOutcome::Refused(_) => (),
+    }
+}
+
+fn show_outcome(name: &[u8], wire: &[u8], outcome: FrameOutcome) {
+    let mut page = [0u8; PAGE];
+    let title = text::append(&mut page, 0, name);
+    let told = text::bytes_line(&mut page, title, &WIRE, wire.len() as u64, &GAP, wire, &GAP);
+    let end = lister::outcome_line(&mut page, told, outcome);
+    print(&page, end);
+}
+
+// P3 to P6, and the frame 0000 without data.
+fn show_wires() {
+    show_wire(b"P3", b"\xC0\x00\x03\x00\x01\x02\xC0");
+    show_wire(b"P4", b"\xC0\x00\x05\x02\x06\xDB\xDC\x00\xC1\xC0");
+    show_wire(b"P5", b"\xC0\x00\x05\x02\x06\xC1\x00\xDB\xDC\xC0");
+    show_wire(b"P6", b"\xC0\x00\x05\x02\x06\xDB\xDD\x00\xDA\xC0");
+    show_wire(b"0000", b"\xC0\x00\x03\x00\x00\x03\xC0");
+}
+
+fn show_refused_wires() {
+    show_wire(b"P8", b"\xC0\x00\x03\x00\x03\xC0");
+    show_wire(b"P9", b"\xC0\x01\x03\x00\x01\x03\xC0");
+    show_wire(b"P10", b"\xC0\x00\x04\x00\x01\x05\xC0");
+    show_wire(b"P11", b"\xC0\x00\x03\x00\x01\x03\xC0");
 }
 
 // Refused packets.
@@ -214,6 +285,7 @@ fn main() {
     show_frames();
     show_more_frames();
     show_limits();
-    show_views();
+    show_wires();
+    show_refused_wires();
     show_empty_views();
 }

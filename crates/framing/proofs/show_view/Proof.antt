@@ -59,6 +59,21 @@ slice-aggregate-bytes-line-8 c = search needs
 bytes-line-requires-2 : tie.Need-bytes-line-requires-2
 bytes-line-requires-2 c κs = search needs
 
+slice-aggregate-append-numbered : tie.Need-slice-aggregate-append-numbered
+slice-aggregate-append-numbered c = search needs
+
+slice-aggregate-append-numbered-2 : tie.Need-slice-aggregate-append-numbered-2
+slice-aggregate-append-numbered-2 c = search needs
+
+cast-append-numbered : tie.Need-cast-append-numbered
+cast-append-numbered c = search needs
+
+slice-aggregate-append-numbered-3 : tie.Need-slice-aggregate-append-numbered-3
+slice-aggregate-append-numbered-3 c = search needs
+
+append-numbered-requires : tie.Need-append-numbered-requires
+append-numbered-requires c κs = search needs
+
 slice-aggregate-print : tie.Need-slice-aggregate-print
 slice-aggregate-print c = search needs
 
@@ -90,6 +105,11 @@ show-view-spec =
     part-bytes-line-end
     slice-aggregate-bytes-line-8
     bytes-line-requires-2
+    slice-aggregate-append-numbered
+    slice-aggregate-append-numbered-2
+    cast-append-numbered
+    slice-aggregate-append-numbered-3
+    append-numbered-requires
     slice-aggregate-print
     print-requires
     returns-2)

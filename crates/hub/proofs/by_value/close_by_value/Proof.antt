@@ -54,9 +54,9 @@ use Rattle.hub.proofs.by_value.close_by_value as close
 use Rattle.hub.proofs.by_value.close_by_value.Statement as stated
 use Rattle.hub.proofs.by_value.close_by_value.Code as code
 use Rattle.hub.proofs.lent.Types.{HubType as Hb, ClosedByValueType as An, ClosedType as To}
-use Rattle.hub.proofs.lent.Free.{free-full}
-use Rattle.hub.proofs.by_value.Whole.{Whole}
-use Rattle.hub.proofs.by_value.Lend.{lends, comes-home, gives-back}
+use Rattle.line.proofs.Free.{free-full}
+use Rattle.line.proofs.Whole.{Whole}
+use Rattle.line.proofs.Lend.{lends, comes-home, gives-back}
 
 abbrev stayed : Stays (close.ended .signature .params) (close.ended .kept)
 stayed = (stay-none (λ _. rowOf Hb) yes, (stay-none (λ _. rowOf R) yes, (stay-none (λ _. u8) yes, tt)))

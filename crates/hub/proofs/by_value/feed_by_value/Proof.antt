@@ -59,9 +59,9 @@ use Rattle.hub.proofs.by_value.feed_by_value as feed
 use Rattle.hub.proofs.by_value.feed_by_value.Statement as stated
 use Rattle.hub.proofs.by_value.feed_by_value.Code as code
 use Rattle.hub.proofs.lent.Types.{HubType as Hb, FedByValueType as An, FedType as To}
-use Rattle.hub.proofs.lent.Free.{free-full}
-use Rattle.hub.proofs.by_value.Whole.{Whole}
-use Rattle.hub.proofs.by_value.Lend.{lends, comes-home, gives-back}
+use Rattle.line.proofs.Free.{free-full}
+use Rattle.line.proofs.Whole.{Whole}
+use Rattle.line.proofs.Lend.{lends, comes-home, gives-back}
 
 abbrev stayed : Stays (feed.ended .signature .params) (feed.ended .kept)
 stayed = (

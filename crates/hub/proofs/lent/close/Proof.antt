@@ -60,7 +60,7 @@ use Rattle.hub.proofs.lent.close as close
 use Rattle.hub.proofs.lent.close.Statement as stated
 use Rattle.hub.proofs.lent.close.Code as code
 use Rattle.hub.proofs.lent.Types.{HubType as Hb, ClosedByValueType as An, ClosedType as To}
-use Rattle.hub.proofs.lent.Free.{free-full}
+use Rattle.line.proofs.Free.{free-full}
 
 abbrev record-of : ClosedByValue → Reading
 record-of a = a .reading

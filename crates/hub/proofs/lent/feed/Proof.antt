@@ -64,7 +64,7 @@ use Rattle.hub.proofs.lent.feed as feed
 use Rattle.hub.proofs.lent.feed.Statement as stated
 use Rattle.hub.proofs.lent.feed.Code as code
 use Rattle.hub.proofs.lent.Types.{HubType as Hb, FedByValueType as An, FedType as To}
-use Rattle.hub.proofs.lent.Free.{free-full}
+use Rattle.line.proofs.Free.{free-full}
 
 abbrev record-of : FedByValue → Reading
 record-of a = a .reading

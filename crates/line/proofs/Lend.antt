@@ -27,9 +27,9 @@ use denote.Steps.{owned, facts}
 use denote.Struct.Steps.{spelt}
 use denote.Struct.Laws.{makes, tells}
 use denote.Triple.Statement.{Triple}
 use Rattle.line.proofs.Part.{Plain, Value, rowOf, layoutOf, valOf, valsOf, typed}
 use Rattle.line.proofs.Back.{there}
-use Rattle.hub.proofs.by_value.Whole.{Whole, gives-whole}
+use Rattle.line.proofs.Whole.{Whole, gives-whole}
 
 module _ (R : Plain) where
   module _ {M : Type 1} {𝓤 : URA M} {H : Heap 𝓤} {A : Atoms 𝓤} {K : Type 0} {W : Given 𝓤 H A} {Γ : List (Item 𝓤)} {G : Goal 𝓤 H} where
