@@ -1,6 +1,8 @@
 // The bench's rounds: a call of the hub made again and again, for a program in Rust or C to time. Only numbers and lent bytes cross over: hub
 // and record are kept here from round to round, so that their layout is nobody else's matter.
-// It stands on the calls of `hub`. Nothing is promised beside what they promise: the bench compares the last reply, room and table.
+// What the rounds promise is what the calls promise, one after another: specs/Rounds.antt. It stands on the calls of `hub`.
+ghost use mathlib.Core.Path.{_≡_};
+ghost use Rattle.rounds.specs.Rounds.{fedLength, finishedLength, Fed, Sent, Makes};
 use rules::FeedAnswer;
 use rules::FinishAnswer;
 
@@ -12,7 +14,9 @@ pub extern "C" fn rounds_feed(
     bytes: &[u8],
     room: &mut [u8],
     rounds: u64,
-) -> usize {
+) -> usize
+    ensures { λ r. ⌜ Makes (Fed (now (bytes .entry))) (now (login .entry)) rounds (now (table .entry)) (now (room .entry)) r (now (table .exit)) (now (room .exit)) ⌝ }
+{
     let entered = hub::feed_by_value(hub::first(), table, frame::emptied(), 0, login, room);
     let mut kept = entered.hub;
     let mut reading = entered.reading;
@@ -40,17 +44,19 @@ pub extern "C" fn rounds_finish(
     session: u16,
     room: &mut [u8],
     rounds: u64,
-) -> usize {
+) -> usize
+    ensures { λ r. ⌜ Makes (Sent (now (bytes .entry)) session) (now (login .entry)) rounds (now (table .entry)) (now (room .entry)) r (now (table .exit)) (now (room .exit)) ⌝ }
+{
     let entered = hub::feed_by_value(hub::first(), table, frame::emptied(), 0, login, room);
     let mut kept = entered.hub;
     let mut reading = entered.reading;
     let mut len = 0;
     let mut left = rounds;
     while 0 < left {
-        let fed = hub::feed_by_value(kept, table, reading, 0, bytes, room);
-        let after = fed.reading;
+        let sent = hub::feed_by_value(kept, table, reading, 0, bytes, room);
+        let after = sent.reading;
         reading = after;
-        let finished = hub::finish(fed.hub, session, room);
+        let finished = hub::finish(sent.hub, session, room);
         let next = finished.hub;
         let answer = finished.answer;
         kept = next;
@@ -61,7 +67,9 @@ pub extern "C" fn rounds_finish(
 }
 
 // The length of the reply that an answer tells.
-fn fed_len(answer: FeedAnswer) -> usize {
+fn fed_len(answer: FeedAnswer) -> usize
+    ensures { λ r. ⌜ r ≡ fedLength answer ⌝ }
+{
     match answer {
         FeedAnswer::Told {
             used: _,
@@ -72,7 +80,9 @@ fn fed_len(answer: FeedAnswer) -> usize {
     }
 }
 
-fn finished_len(answer: FinishAnswer) -> usize {
+fn finished_len(answer: FinishAnswer) -> usize
+    ensures { λ r. ⌜ r ≡ finishedLength answer ⌝ }
+{
     match answer {
         FinishAnswer::Finished { line: _, len } => len,
         FinishAnswer::Refused(_) => 0,
