@@ -58,7 +58,8 @@ pub enum Judged {
     Refused(PacketRefusal),
 }
 
-// What wire bytes came to. A frame's data are `len` bytes of the reading's `bytes` from `HEAD` on.
+// What wire bytes came to. A frame's data are `len` bytes of the reading's `bytes` from `HEAD` on; its whole packet is the first
+// `len + AROUND` of them.
 pub enum FrameOutcome {
     Nothing,
     Frame { command: u16, len: usize },
