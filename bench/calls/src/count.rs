@@ -23,12 +23,14 @@ fn of_round(row: &Row, side: &str, rounds: u64) -> Result<u64, Box<dyn Error>> {
     Ok((more - counted(row, side, rounds)?) / rounds)
 }
 
-/// The instructions of a whole run.
+/// The instructions of a whole run. Copies take more or less by where the
+/// stack lies, so the environment is empty.
 fn counted(row: &Row, side: &str, rounds: u64) -> Result<u64, Box<dyn Error>> {
     let told = Command::new("valgrind")
         .args(["--tool=callgrind", "--callgrind-out-file=/dev/null"])
         .arg(env::current_exe()?)
         .args([&row.name, side, "--rounds", &rounds.to_string()])
+        .env_clear()
         .output()
         .map_err(|error| format!("valgrind: {error}"))?;
     let text = String::from_utf8_lossy(&told.stderr);
