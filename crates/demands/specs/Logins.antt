@@ -57,18 +57,18 @@ out-of-range n e = go (leb 32 n) (leb n 32) refl refl
 
 -- password enter logs its line in exactly by the right password
 enter-logins : (h : Hub) (t : List ℕ) (l : ℕ) (d : List ℕ) → rules.serve h t l (frame 0x3000 d) .hub .logins
-    ≡ cond (eqb (length d) rules.passwordSize && same d (h .password)) (set (h .logins) l true) (h .logins)
+    ≡ cond (eqb (length d) rules.passwordSize && same d (h .password)) (set (h .logins) l 1) (h .logins)
 unfolding rules.serve rules.request rules.enter
 enter-logins h t l d = rw (enter-verdict (length d)) (go (eqb (length d) 32) refl (rules.isLoggedIn h l) (same d (h .password)))
   where
     entered : Bool → rules.Password
     entered s =
-        cond s (record { status = rules.correct; hub = record { password = h .password; logins = set (h .logins) l true; slots = h .slots } })
+        cond s (record { status = rules.correct; hub = record { password = h .password; logins = set (h .logins) l 1; slots = h .slots } })
         (record { status = rules.incorrect; hub = h })
 
     fits : (i s : Bool)
         → cond (i || true) (rules.reply (entered s .hub) t 0x3001 (entered s .status ∷ [])) (rules.failure h t rules.notLoggedIn) .hub .logins
-        ≡ cond s (set (h .logins) l true) (h .logins)
+        ≡ cond s (set (h .logins) l 1) (h .logins)
     fits true true = refl
     fits true false = refl
     fits false true = refl
@@ -77,20 +77,20 @@ enter-logins h t l d = rw (enter-verdict (length d)) (go (eqb (length d) 32) ref
     go : (b : Bool) → eqb (length d) 32 ≡ b → (i s : Bool)
         → rules.byVerdict (cond (leb 32 (length d) && leb (length d) 32) none (some lookup.frameError)) (rules.failure h t)
         (cond (i || true) (rules.reply (entered s .hub) t 0x3001 (entered s .status ∷ [])) (rules.failure h t rules.notLoggedIn)) .hub .logins
-        ≡ cond (b && s) (set (h .logins) l true) (h .logins)
+        ≡ cond (b && s) (set (h .logins) l 1) (h .logins)
     go true e i s =
         let n : length d ≡ 32 = eqb-true (length d) 32 e in
         rw (le-leb 32 (length d) (omega arith), le-leb (length d) 32 (omega arith)) (fits i s)
     go false e i s = rw (out-of-range (length d) e)
 
 pub serve-logins : (h : Hub) (t : List ℕ) (l : ℕ) (o : Outcome)
-    → rules.serve h t l o .hub .logins ≡ cond (isPassword h (some o)) (set (h .logins) l true) (h .logins)
+    → rules.serve h t l o .hub .logins ≡ cond (isPassword h (some o)) (set (h .logins) l 1) (h .logins)
 unfolding isPassword rules.serve
 serve-logins h t l (refused n) = refl
 serve-logins h t l (frame c d) = go (eqb c 0x3000) refl
   where
     go : (b : Bool) → eqb c 0x3000 ≡ b
-        → rules.serve h t l (frame c d) .hub .logins ≡ cond (b && (eqb (length d) rules.passwordSize && same d (h .password))) (set (h .logins) l true) (h .logins)
+        → rules.serve h t l (frame c d) .hub .logins ≡ cond (b && (eqb (length d) rules.passwordSize && same d (h .password))) (set (h .logins) l 1) (h .logins)
     go true e = rw (eqb-true c 0x3000 e) (enter-logins h t l d)
     go false e = each-verdict (Kept h) (lookup.verdict c (length d)) _ _ (λ x. refl) (either (Kept h) (rules.mayAsk (h .logins) l c) _ _ (request-kept h t l c d e) refl)
 
@@ -98,24 +98,24 @@ serve-logins h t l (frame c d) = go (eqb c 0x3000) refl
 
 feed-logins : (w : World) (e : feeds.Entry)
     → feeds.feed rules.hub w e .0 .hub .logins
-    ≡ cond (isPassword (w .hub) (outcomeOf (feeds.feed rules.hub w e .1 .answer))) (set (w .hub .logins) (e .line) true) (w .hub .logins)
+    ≡ cond (isPassword (w .hub) (outcomeOf (feeds.feed rules.hub w e .1 .answer))) (set (w .hub .logins) (e .line) 1) (w .hub .logins)
 unfolding feeds.settled feeds.serveIf feeds.returned isPassword outcomeOf
 feed-logins w e = go (fed rules.hub w e)
   where
     go : {x : World × feeds.Result} → Fed rules.hub w e x
-        → x .0 .hub .logins ≡ cond (isPassword (w .hub) (outcomeOf (x .1 .answer))) (set (w .hub .logins) (e .line) true) (w .hub .logins)
+        → x .0 .hub .logins ≡ cond (isPassword (w .hub) (outcomeOf (x .1 .answer))) (set (w .hub .logins) (e .line) 1) (w .hub .logins)
     go (barred n) = refl
     go (done u s none q) = refl
     go (done u s (some o) q) = serve-logins (w .hub) (w .table) (e .line) o
 
 -- ---- one call
 
-set-logged : (ls : List Bool) (k l : ℕ) (v : Bool) → l < length ls → getD (set ls k v) l false ≡ cond (eqb k l) v (getD ls l false)
+set-logged : (ls : List ℕ) (k l v : ℕ) → l < length ls → rules.isListed (set ls k v) l ≡ cond (eqb k l) (eqb v 1) (rules.isListed ls l)
 set-logged ls k l v h = go (eqb k l) refl
   where
-    go : (b : Bool) → eqb k l ≡ b → getD (set ls k v) l false ≡ cond b v (getD ls l false)
-    go true e = ap (λ (n : ℕ). getD (set ls n v) l false) (eqb-true k l e) ∙ getD-set-same ls l v false h
-    go false e = getD-set-other ls k l v false (λ x. eqb-false k l e (sym x))
+    go : (b : Bool) → eqb k l ≡ b → rules.isListed (set ls k v) l ≡ cond b (eqb v 1) (rules.isListed ls l)
+    go true e = ap (λ (n : ℕ). eqb n 1) (ap (λ (n : ℕ). getD (set ls n v) l 0) (eqb-true k l e) ∙ getD-set-same ls l v 0 h)
+    go false e = ap (λ (n : ℕ). eqb n 1) (getD-set-other ls k l v 0 (λ x. eqb-false k l e (sym x)))
 
 -- there are four lines
 abbrev Four : World → Type 0
@@ -127,7 +127,7 @@ unfolding after loggedBy
 call-logged l w (start p) four h = go (rules.startRefusal (w .table) p)
   where
     go : (o : Option ℕ) → rules.isLoggedIn (rules.startBy o (w .hub) (w .table) p .hub) l ≡ unlessRefused o (rules.isLoggedIn (w .hub) l)
-    go none = getD-replicate rules.lineCount l false false h
+    go none = ap (λ (n : ℕ). eqb n 1) (getD-replicate rules.lineCount l 0 0 h)
     go (some n) = refl
 call-logged l w (enrol n type) four h = refl
 call-logged l w (close k spare) four h = go (ltb k rules.lineCount) refl
@@ -135,7 +135,7 @@ call-logged l w (close k spare) four h = go (ltb k rules.lineCount) refl
     go : (b : Bool) → ltb k rules.lineCount ≡ b
         → rules.isLoggedIn (rules.closeBy (rules.refuseIf (not b) rules.wrongLine none) (w .hub) (getD (w .states) k spare) k .hub) l
         ≡ cond (eqb k l) false (rules.isLoggedIn (w .hub) l)
-    go true e = set-logged (w .hub .logins) k l false (omega arith)
+    go true e = set-logged (w .hub .logins) k l 0 (omega arith)
     go false e = rw (ne-eqb k l (λ x. omega (arith, ltb-false k rules.lineCount e)))
 call-logged l w (finish x room) four h = go (ltb room minRoom) (sessions.finish (w .hub .slots) x)
   where
@@ -144,11 +144,11 @@ call-logged l w (finish x room) four h = go (ltb room minRoom) (sessions.finish 
     go false none = refl
     go false (some f) = refl
 call-logged l w (feed e) four h =
-    ap (λ (ls : List Bool). getD ls l false) (feed-logins w e)
-    ∙ go (isPassword (w .hub) (outcomeOf (feeds.feed rules.hub w e .1 .answer))) (eqb (e .line) l) (set-logged (w .hub .logins) (e .line) l true (omega arith))
+    ap (λ (ls : List ℕ). rules.isListed ls l) (feed-logins w e)
+    ∙ go (isPassword (w .hub) (outcomeOf (feeds.feed rules.hub w e .1 .answer))) (eqb (e .line) l) (set-logged (w .hub .logins) (e .line) l 1 (omega arith))
   where
-    go : (p q : Bool) → getD (set (w .hub .logins) (e .line) true) l false ≡ cond q true (rules.isLoggedIn (w .hub) l)
-        → getD (cond p (set (w .hub .logins) (e .line) true) (w .hub .logins)) l false ≡ cond (q && p) true (rules.isLoggedIn (w .hub) l)
+    go : (p q : Bool) → rules.isListed (set (w .hub .logins) (e .line) 1) l ≡ cond q true (rules.isLoggedIn (w .hub) l)
+        → rules.isListed (cond p (set (w .hub .logins) (e .line) 1) (w .hub .logins)) l ≡ cond (q && p) true (rules.isLoggedIn (w .hub) l)
     go true true x = x
     go true false x = x
     go false true x = refl
@@ -165,7 +165,7 @@ call-four w (enrol n type) four = four
 call-four w (close k spare) four = go (rules.closeRefusal k)
   where
     go : (o : Option ℕ) → length (rules.closeBy o (w .hub) (getD (w .states) k spare) k .hub .logins) ≡ rules.lineCount
-    go none = length-set (w .hub .logins) k false ∙ four
+    go none = length-set (w .hub .logins) k 0 ∙ four
     go (some n) = four
 call-four w (finish x room) four = go (ltb room minRoom) (sessions.finish (w .hub .slots) x)
   where
@@ -175,8 +175,8 @@ call-four w (finish x room) four = go (ltb room minRoom) (sessions.finish (w .hu
     go false (some f) = four
 call-four w (feed e) four = ap length (feed-logins w e) ∙ go (isPassword (w .hub) (outcomeOf (feeds.feed rules.hub w e .1 .answer)))
   where
-    go : (p : Bool) → length (cond p (set (w .hub .logins) (e .line) true) (w .hub .logins)) ≡ rules.lineCount
-    go true = length-set (w .hub .logins) (e .line) true ∙ four
+    go : (p : Bool) → length (cond p (set (w .hub .logins) (e .line) 1) (w .hub .logins)) ≡ rules.lineCount
+    go true = length-set (w .hub .logins) (e .line) 1 ∙ four
     go false = four
 
 -- ---- the theorem

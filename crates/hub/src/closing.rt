@@ -38,7 +38,7 @@ fn closed_line(hub: Hub, line: u8) -> Hub
     let slots = sessions::close_line(opened, line);
     let k = line as usize;
     let mut logins = hub.logins;
-    logins[k] = false;
+    logins[k] = 0;
     Hub {
         password: password,
         logins: logins,

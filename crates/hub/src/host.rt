@@ -31,7 +31,7 @@ fn fresh(password: [u8; rules::PASSWORD]) -> Hub
     let slots = sessions::none();
     Hub {
         password: password,
-        logins: [false; rules::LINES],
+        logins: [0; rules::LINES],
         slots: slots,
     }
 }

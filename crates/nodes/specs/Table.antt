@@ -133,7 +133,7 @@ informed t n = cond (eqb (length t) tableSize && inUse t n) (record { known = tr
 
 -- ---- remove nodes, virgin state
 
--- bit k is bit k mod 8, least significant first, of data byte k div 8 + 1
+-- bit k is bit k mod 8, least significant first, of data byte k div 8 + 1, bytes counted from 1
 unfoldable pub bit : List ℕ → ℕ → Bool
 bit bits k = eqb (getD bits (k / 8) 0 / 2 ^ (k % 8) % 2) 1
 

@@ -12,6 +12,7 @@ pub use fields::set_name;
 pub use fields::set_order_and_placement;
 pub use fields::set_variation;
 pub use notification::information;
+pub use table::bit;
 pub use table::in_use;
 pub use table::is_removed;
 pub use table::remove;

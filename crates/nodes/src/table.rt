@@ -1,5 +1,5 @@
-// Which nodes are in use, and their removal (document 01, remove nodes).
-// Answers and tables are those of specs/Table.antt: inUse, isRemoved, remove.
+// Which nodes are in use, a node's bit, and removal (document 01, remove nodes).
+// Answers and tables are those of specs/Table.antt: inUse, bit, isRemoved, remove.
 ghost use Prim.Native.Nat.{_<_};
 ghost use mathlib.Core.Path.{_≡_};
 ghost use Rattle.nodes.specs.Table.{nodeCount, inUse, bit, isRemoved, removeOne, remove};
@@ -12,6 +12,15 @@ pub fn in_use(table: &[u8], node: usize) -> bool
         return false;
     }
     memory::byte(table, node * crate::RECORD) == 1
+}
+
+// Whether bit k of some bytes is set, least significant first.
+pub fn bit(bytes: &[u8], k: usize) -> bool
+    ensures { λ r. ⌜ r ≡ bit (now (bytes .entry)) k ⌝ }
+{
+    let byte = memory::byte(bytes, k / 8);
+    let shift = (k % 8) as u8;
+    (byte >> shift) % 2 == 1
 }
 
 // Whether the bits name node k, and it is in use.
@@ -42,13 +51,4 @@ fn remove_one(table: &mut [u8], bits: &[u8], k: usize)
     if is_removed(table, bits, k) {
         memory::fill(table, k * crate::RECORD, crate::RECORD, 0);
     }
-}
-
-// Whether the bits name node k.
-fn bit(bits: &[u8], k: usize) -> bool
-    ensures { λ r. ⌜ r ≡ bit (now (bits .entry)) k ⌝ }
-{
-    let byte = memory::byte(bits, k / 8);
-    let shift = (k % 8) as u8;
-    (byte >> shift) % 2 == 1
 }

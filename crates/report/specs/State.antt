@@ -3,6 +3,7 @@ use Prim.Native.Nat.{ℕ, zero, suc}
 use mathlib.Core.List.{List, [], _∷_, _++_}
 use mathlib.Core.Bool.{Bool, true, false}
 use lib.ListN.{getD}
+use Rattle.nodes.specs.Table.{bit}
 use Rattle.sessions.specs.Sessions.{targetCount}
 use Rattle.text.specs.Text.{ascii, decimal, hex4}
 use Rattle.text.specs.Bytes.{bytesWord}
@@ -30,12 +31,12 @@ nodeWord node true = ascii " " ++ decimal node
 nodeWord node false = []
 
 -- the marked nodes below n, ascending
-unfoldable pub nodesBelow : ℕ → List Bool → List ℕ
+unfoldable pub nodesBelow : ℕ → List ℕ → List ℕ
 nodesBelow zero nodes = []
-nodesBelow (suc n) nodes = nodesBelow n nodes ++ nodeWord n (getD nodes n false)
+nodesBelow (suc n) nodes = nodesBelow n nodes ++ nodeWord n (bit nodes n)
 
 -- an open slot: the session's number, its line and its nodes
-unfoldable pub slotLine : ℕ → ℕ → ℕ → List Bool → List ℕ
+unfoldable pub slotLine : ℕ → ℕ → ℕ → List ℕ → List ℕ
 slotLine slot session line nodes =
     ascii "slot " ++ decimal slot ++ ascii " " ++ hex4 session ++ ascii " " ++ decimal line ++ nodesBelow targetCount nodes ++ ascii "\n"
 

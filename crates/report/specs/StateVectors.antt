@@ -1,9 +1,11 @@
 -- The state's lines at some values: each line once.
+use Prim.Native.Nat.{ℕ}
 use mathlib.Core.Path.{_≡_, refl}
 use mathlib.Core.List.{List, [], _∷_}
-use mathlib.Core.Bool.{Bool, true, false}
-use lib.ListN.{set, replicate}
-use Rattle.sessions.specs.Sessions.{targetCount}
+use mathlib.Core.Bool.{true, false}
+use lib.ListN.{replicate}
+use Rattle.nodes.specs.Table.{bit}
+use Rattle.sessions.specs.Sessions.{markBytes, withBit}
 use Rattle.text.specs.Text.{ascii, digit, decimalIn, decimal}
 use Rattle.text.specs.Bytes.{hexPairs, bytesWord}
 use Rattle.report.specs.State.{flag, loginLine, nodeWord, nodesBelow, slotLine, nodeLine, modeWord, readingLine, endLine}
@@ -19,15 +21,15 @@ unfolding ascii flag loginLine
 login-second = refl
 
 -- the first node, the last and one between
-abbrev marks : List Bool
-marks = set (set (set (replicate targetCount false) 7 true) 199 true) 0 true
+abbrev marks : List ℕ
+marks = withBit (withBit (withBit (replicate markBytes 0) 7) 199) 0
 
 slot-nodes : slotLine 7 0x01A2 3 marks ≡ ascii "slot 7 01A2 3 0 7 199\n"
-unfolding ascii digit decimalIn decimal nodeWord nodesBelow slotLine
+unfolding ascii digit decimalIn decimal bit withBit nodeWord nodesBelow slotLine
 slot-nodes = refl
 
-slot-none : slotLine 0 0xFFFF 1 (replicate targetCount false) ≡ ascii "slot 0 FFFF 1\n"
-unfolding ascii digit decimalIn decimal nodeWord nodesBelow slotLine
+slot-none : slotLine 0 0xFFFF 1 (replicate markBytes 0) ≡ ascii "slot 0 FFFF 1\n"
+unfolding ascii digit decimalIn decimal bit withBit nodeWord nodesBelow slotLine
 slot-none = refl
 
 node-last : nodeLine 199 (0x01 ∷ 0x00 ∷ 0x4F ∷ []) ≡ ascii "node 199 01004F\n"

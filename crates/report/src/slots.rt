@@ -10,6 +10,7 @@ ghost use Rattle.text.specs.Text.{ascii, decimal, hex4};
 ghost use Rattle.text.specs.Built.{Built};
 ghost use Rattle.text.specs.Appended.{appended, Leaves};
 ghost use Rattle.report.specs.State.{slotSize, slotLine, nodeWord, nodesBelow};
+use sessions::MARKS;
 use sessions::TARGETS;
 use text::GAP;
 use text::LINE_END;
@@ -27,7 +28,7 @@ pub fn slot_line(
     slot: u8,
     session: u16,
     line: u8,
-    nodes: [bool; TARGETS],
+    nodes: [u8; MARKS],
 ) -> usize
     ensures { λ r. ⌜ Leaves (appended (now (out .entry)) at (slotLine slot session line nodes)) (now (out .exit)) r ⌝ }
 {
@@ -37,7 +38,7 @@ pub fn slot_line(
 }
 
 // The whole line, at the front of some room.
-fn slot_text(whole: &mut [u8], slot: u8, session: u16, line: u8, nodes: [bool; TARGETS]) -> usize
+fn slot_text(whole: &mut [u8], slot: u8, session: u16, line: u8, nodes: [u8; MARKS]) -> usize
     requires { ⌜ length (now whole) ≡ slotSize ⌝ }
     ensures { λ r. ⌜ Built slotSize slotSize (slotLine slot session line nodes) (now (whole .exit)) r ⌝ }
 {
@@ -57,14 +58,14 @@ fn slot_head(whole: &mut [u8], slot: u8, session: u16) -> usize
 }
 
 // The nodes that are marked, each behind a space: no more than four bytes a node.
-fn put_nodes(out: &mut [u8], at: usize, nodes: [bool; TARGETS]) -> usize
+fn put_nodes(out: &mut [u8], at: usize, nodes: [u8; MARKS]) -> usize
     requires { ⌜ at + 4 * targetCount ≤ length (now out) ⌝ }
     ensures { λ r. ⌜ Wrote (now (out .entry)) at (nodesBelow targetCount nodes) (now (out .exit)) r ⌝ }
 {
     let mut place = at;
     let mut node = 0;
     while node < TARGETS {
-        place = node_word(out, place, node, nodes[node]);
+        place = node_word(out, place, node, nodes::bit(&nodes, node));
         node += 1;
     }
     place

@@ -59,11 +59,10 @@ pub(crate) fn serve(
     }
 }
 
-fn may_ask(logins: [bool; rules::LINES], line: u8, command: u16) -> bool
-    requires { ⌜ line < lineCount ⌝ }
+fn may_ask(logins: [u8; rules::LINES], line: u8, command: u16) -> bool
     ensures { λ r. ⌜ r ≡ mayAsk logins line command ⌝ }
 {
-    if crate::logins::is_logged_in(logins, line) {
+    if rules::is_logged_in(logins, line) {
         return true;
     }
     command == PASSWORD_ENTER

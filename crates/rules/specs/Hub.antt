@@ -91,7 +91,7 @@ incorrect = 1
 unfoldable pub enter : Hub → ℕ → List ℕ → Password
 enter h l d =
     cond (same d (h .password))
-    (record { status = correct; hub = record { password = h .password; logins = set (h .logins) l true; slots = h .slots } })
+    (record { status = correct; hub = record { password = h .password; logins = set (h .logins) l 1; slots = h .slots } })
     (record { status = incorrect; hub = h })
 
 -- the first 32 must equal the password, then the last 32 become it, status 0; otherwise status 1
@@ -160,14 +160,15 @@ request h t l c d =
 
 -- ---- each outcome on a line
 
-abbrev pub isListed : List Bool → ℕ → Bool
-isListed logins l = getD logins l false
+-- a line is logged in exactly if its number for that is 1
+abbrev pub isListed : List ℕ → ℕ → Bool
+isListed logins l = eqb (getD logins l 0) 1
 
 abbrev pub isLoggedIn : Hub → ℕ → Bool
 isLoggedIn h l = isListed (h .logins) l
 
 -- a line that is not logged in may enter the password only
-abbrev pub mayAsk : List Bool → ℕ → ℕ → Bool
+abbrev pub mayAsk : List ℕ → ℕ → ℕ → Bool
 mayAsk logins l c = isListed logins l || eqb c passwordEnter
 
 -- judged in this order: packet refused, 2; command unknown, 1; data length outside the directory's range, 2; not logged in and not
@@ -187,7 +188,7 @@ pub record Started : Type 0 where
   pub table : List ℕ
 
 abbrev pub freshHub : List ℕ → Hub
-freshHub p = record { password = p; logins = replicate lineCount false; slots = replicate sessions.slotCount sessions.closedSlot }
+freshHub p = record { password = p; logins = replicate lineCount 0; slots = replicate sessions.slotCount sessions.closedSlot }
 
 -- the hub before any start
 abbrev pub firstHub : Hub
@@ -228,7 +229,7 @@ abbrev pub closeRefusal : ℕ → Option ℕ
 closeRefusal l = refuseLine l none
 
 abbrev pub closedLine : Hub → ℕ → Hub
-closedLine h l = record { password = h .password; logins = set (h .logins) l false; slots = sessions.closeLine l (h .slots) }
+closedLine h l = record { password = h .password; logins = set (h .logins) l 0; slots = sessions.closeLine l (h .slots) }
 
 abbrev pub closeBy : Option ℕ → Hub → State → ℕ → Closed
 closeBy (some n) h s l = record { refusal = some n; hub = h; state = s }

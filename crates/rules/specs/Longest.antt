@@ -154,7 +154,7 @@ finish-longest h x room l n e = go (ltb room minRoom) (sessions.finish (h .slots
 
 -- line 0 is logged in; node C0 is in use, and its other bytes are all C0, as the host may lend them: no call stores a variation above 4
 abbrev asking : Hub
-asking = record { password = replicate passwordSize 0; logins = true ∷ replicate 3 false; slots = replicate sessions.slotCount sessions.closedSlot }
+asking = record { password = replicate passwordSize 0; logins = 1 ∷ replicate 3 0; slots = replicate sessions.slotCount sessions.closedSlot }
 
 abbrev allEnds : List ℕ
 allEnds = replicate (0xC0 * table.recordSize) 0 ++ (1 ∷ replicate 71 0xC0) ++ replicate (7 * table.recordSize) 0

@@ -81,7 +81,7 @@ pub start-password : (h : Hub) (t p : List ℕ) → length t ≡ tableSize → (
 start-password h t p e k = rw (eq-eqb (length t) tableSize e, ne-eqb (length p) passwordSize k)
 
 pub start-done : (h : Hub) (t p : List ℕ) → length t ≡ tableSize → length p ≡ 32
-    → start h t p ≡ record { refusal = none; hub = record { password = p; logins = false ∷ false ∷ false ∷ false ∷ []; slots = replicate slotCount closedSlot }; table = replicate tableSize 0 }
+    → start h t p ≡ record { refusal = none; hub = record { password = p; logins = 0 ∷ 0 ∷ 0 ∷ 0 ∷ []; slots = replicate slotCount closedSlot }; table = replicate tableSize 0 }
 start-done h t p e k = rw (eq-eqb (length t) tableSize e, eq-eqb (length p) passwordSize k) (rw e)
 
 -- enrol: a table of another length (7), a node above 199 (11), one that is in use (12)

@@ -14,7 +14,7 @@ use Rattle.nodes.specs.Table as table
 use Rattle.nodes.specs.Table.{recordSize}
 use Rattle.sessions.specs.Search as search
 use Rattle.sessions.specs.Sessions as sessions
-use Rattle.sessions.specs.Sessions.{slotCount, targetCount, closedSlot}
+use Rattle.sessions.specs.Sessions.{slotCount, closedSlot}
 use Rattle.sessions.specs.declared.Slot.{Slot}
 use Rattle.rules.specs.declared.Hub.{Hub}
 use Rattle.rules.specs.Hub as rules
@@ -25,7 +25,7 @@ use Rattle.rules.specs.Hub.{Reply, firstHub, serve, request, enter, star
 
 -- lines 0 and 2 are logged in, with these sessions
 abbrev hubWith : List Slot → Hub
-hubWith ss = record { password = replicate 32 8; logins = true ∷ false ∷ true ∷ false ∷ []; slots = ss }
+hubWith ss = record { password = replicate 32 8; logins = 1 ∷ 0 ∷ 1 ∷ 0 ∷ []; slots = ss }
 
 abbrev loggedIn : Hub
 loggedIn = hubWith (replicate slotCount closedSlot)
@@ -35,25 +35,26 @@ abbrev passwordChanged : Hub → Hub
 passwordChanged h = record { password = replicate 32 9; logins = h .logins; slots = h .slots }
 
 abbrev loggedOut : Hub → Hub
-loggedOut h = record { password = h .password; logins = true ∷ false ∷ false ∷ false ∷ []; slots = h .slots }
+loggedOut h = record { password = h .password; logins = 1 ∷ 0 ∷ 0 ∷ 0 ∷ []; slots = h .slots }
 
--- session 0102 of line 2 with these nodes, and with node n alone
-abbrev session : List Bool → Slot
-session nodes = record { used = true; number = 0x0102; line = 2; nodes = nodes }
+-- the bits of nodes, all in byte k
+abbrev marks : ℕ → ℕ → List ℕ
+marks k b = set (replicate 25 0) k b
 
-abbrev sessionWith : ℕ → Slot
-sessionWith n = session (set (replicate targetCount false) n true)
+-- session 0102 of line 2 with these nodes
+abbrev session : List ℕ → Slot
+session nodes = record { used = 1; line = 2; number = 0x0102; nodes = nodes }
 
 -- it is open in the lowest slot
 abbrev opened : Slot → Hub
 opened s = hubWith (set (loggedIn .slots) 0 s)
 
 abbrev moving : Hub
-moving = opened (sessionWith 3)
+moving = opened (session (marks 0 0x08))
 
 -- session 0103 of line 1 with node 2; it is open in slot 1
 abbrev other : Slot
-other = record { used = true; number = 0x0103; line = 1; nodes = set (replicate targetCount false) 2 true }
+other = record { used = 1; line = 1; number = 0x0103; nodes = marks 0 0x04 }
 
 abbrev both : Hub → Hub
 both h = hubWith (set (h .slots) 1 other)
@@ -87,7 +88,7 @@ answers h o reply = leaves h 4 o h reply
 -- the right password before any start and later, and one whose last byte is wrong
 abbrev passwords : List Row
 passwords =
-    leaves firstHub 4 (frame 0x3000 (replicate 32 0)) (record { password = replicate 32 0; logins = false ∷ false ∷ true ∷ false ∷ []; slots = replicate 8 closedSlot })
+    leaves firstHub 4 (frame 0x3000 (replicate 32 0)) (record { password = replicate 32 0; logins = 0 ∷ 0 ∷ 1 ∷ 0 ∷ []; slots = replicate 8 closedSlot })
     (0xC0 ∷ 0x00 ∷ 0x04 ∷ 0x30 ∷ 0x01 ∷ 0x00 ∷ 0x35 ∷ 0xC0 ∷ [])
     ∷ leaves (loggedOut moving) 4 (frame 0x3000 (replicate 32 8)) moving (wire 0x3001 (0 ∷ []))
     ∷ answers (loggedOut moving) (frame 0x3000 (replicate 31 8 ++ 1 ∷ [])) (wire 0x3001 (1 ∷ []))
@@ -167,9 +168,9 @@ sent status = wire 0x0321 (0x01 ∷ 0x02 ∷ status ∷ [])
 abbrev modeSends : List Row
 modeSends =
     leaves loggedIn 4 (modeSend 1 (3 ∷ [])) moving (0xC0 ∷ 0x00 ∷ 0x06 ∷ 0x03 ∷ 0x21 ∷ 0x01 ∷ 0x02 ∷ 0x00 ∷ 0x27 ∷ 0xC0 ∷ [])
-    ∷ leaves loggedIn 200 (modeSend 1 (199 ∷ [])) (opened (sessionWith 199)) (sent 0)
+    ∷ leaves loggedIn 200 (modeSend 1 (199 ∷ [])) (opened (session (marks 24 0x80))) (sent 0)
     ∷ leaves loggedIn 201 (modeSend 1 (200 ∷ [])) loggedIn (sent 5)
-    ∷ leaves loggedIn 20 (modeSend 20 (search.below 20)) (opened (session (replicate 20 true ++ replicate (targetCount - 20) false))) (sent 0)
+    ∷ leaves loggedIn 20 (modeSend 20 (search.below 20)) (opened (session (0xFF ∷ 0xFF ∷ 0x0F ∷ replicate 22 0))) (sent 0)
     ∷ leaves loggedIn 20 (modeSend 21 (search.below 20)) loggedIn (sent 5)
     ∷ answers loggedIn (modeSend 0 (3 ∷ [])) (sent 5)
     ∷ answers moving (modeSend 1 (3 ∷ [])) (sent 3)
@@ -180,8 +181,8 @@ modeSends =
 -- removing node 3 closes its session and no other; virgin state zeroes the table and closes all sessions, logins and password stay
 abbrev removals : List Row
 removals =
-    row (hubWith (set (moving .slots) 1 (sessionWith 0))) (windows 4) (frame 0x0106 (8 ∷ replicate 25 0))
-    (hubWith (set (loggedIn .slots) 1 (sessionWith 0))) (windows 3 ++ replicate recordSize 0) (wire 0x0107 (0 ∷ []))
+    row (hubWith (set (moving .slots) 1 (session (marks 0 0x01)))) (windows 4) (frame 0x0106 (8 ∷ replicate 25 0))
+    (hubWith (set (loggedIn .slots) 1 (session (marks 0 0x01)))) (windows 3 ++ replicate recordSize 0) (wire 0x0107 (0 ∷ []))
     ∷ row (both moving) (windows 4) (frame 0x0108 []) loggedIn (replicate (4 * recordSize) 0) (wire 0x0109 [])
     ∷ []
 
@@ -189,7 +190,7 @@ abbrev rows : List Row
 rows = passwords ++ errors ++ misfits ++ changes ++ information ++ confirms ++ modeSends ++ removals
 
 rows-hold : map tried rows ≡ rows
-unfolding serve request enter same rules.change rules.getNode rules.virginState rules.removeNodes rules.modeSend sessions.modeSend sessions.isLegal sessions.targetsLegal sessions.marked sessions.holdsRemoved search.any search.first search.below table.setVariation table.setField table.inUse table.bit table.information table.removeBelow table.removeOne lookup.verdict lookup.verdictOf lookup.find directory wire escape framed body xor.xorAll xor._⊕_
+unfolding serve request enter same rules.change rules.getNode rules.virginState rules.removeNodes rules.modeSend sessions.modeSend sessions.isLegal sessions.targetsLegal sessions.marked sessions.withBit sessions.holdsRemoved search.any search.first search.below table.setVariation table.setField table.inUse table.bit table.information table.removeBelow table.removeOne lookup.verdict lookup.verdictOf lookup.find directory wire escape framed body xor.xorAll xor._⊕_
 rows-hold = refl
 
 -- data bytes that are missing count as 0, and a line that is missing is not logged in; the directory and feed let neither come
@@ -202,6 +203,10 @@ missing = refl
 strangers : map (rules.isLoggedIn loggedIn) (0 ∷ 1 ∷ 2 ∷ 3 ∷ 4 ∷ []) ≡ true ∷ false ∷ true ∷ false ∷ false ∷ []
 strangers = refl
 
+-- any other number than 1 leaves a line logged out
+numbers : map (rules.isListed (0 ∷ 1 ∷ 2 ∷ 255 ∷ [])) (0 ∷ 1 ∷ 2 ∷ 3 ∷ []) ≡ false ∷ true ∷ false ∷ false ∷ []
+numbers = refl
+
 -- ---- host calls
 
 -- start judges the table before the password; a refused one leaves hub and table
@@ -209,7 +214,7 @@ started : start moving (replicate 14399 1) (replicate 31 5) ∷ start moving (re
     ∷ start moving (replicate 14400 1) (replicate 32 5) ∷ []
     ≡ record { refusal = some 7; hub = moving; table = replicate 14399 1 } ∷ record { refusal = some 14; hub = moving; table = replicate 14400 1 }
     ∷ record { refusal = some 14; hub = moving; table = replicate 14400 1 }
-    ∷ record { refusal = none; hub = record { password = replicate 32 5; logins = replicate 4 false; slots = replicate 8 closedSlot }; table = replicate 14400 0 } ∷ []
+    ∷ record { refusal = none; hub = record { password = replicate 32 5; logins = replicate 4 0; slots = replicate 8 closedSlot }; table = replicate 14400 0 } ∷ []
 started = refl
 
 -- enrol judges the table, then the node, then its use; the type goes high byte first, other fields are zero

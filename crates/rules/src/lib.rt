@@ -1,10 +1,12 @@
 // The hub's rules: its state, its answers, and what each request and each call does (document 01; specs/Hub.antt). What the calls promise is
-// specs/Promises.antt, an answer's number specs/Answers.antt. Beside the numbers of the refusals it has no code.
+// specs/Promises.antt, an answer's number specs/Answers.antt. Its code: who is logged in, and the numbers of the refusals.
 // It stands on what the frame layer, the directory, the node table, the sessions and the lists of feeds state.
+mod logins;
 mod refusals;
 
 use frame::FrameOutcome;
 use line::Reading;
+pub use logins::is_logged_in;
 pub use refusals::number;
 use sessions::Slot;
 
@@ -13,10 +15,11 @@ pub const LINES: usize = 4;
 
 pub const PASSWORD: usize = 32;
 
-// The hub's state. The node table is lent to each call; the reading states are the serial service's.
+// The hub's state: a line is logged in exactly if its number in `logins` is 1. The node table is lent to each call; the reading states are the
+// serial service's.
 pub struct Hub {
     pub password: [u8; PASSWORD],
-    pub logins: [bool; LINES],
+    pub logins: [u8; LINES],
     pub slots: [Slot; sessions::SLOTS],
 }
 

@@ -2,20 +2,20 @@
 use Prim.Native.Nat.{ℕ, zero, suc, _+_, _≤_}
 use mathlib.Core.Path.{_≡_, refl, ap, _∙_}
 use mathlib.Core.List.{List, [], _∷_}
-use mathlib.Core.Bool.{Bool, true, false, cond, true≢false, false≢true}
+use mathlib.Core.Bool.{Bool, true, false, cond, _&&_, true≢false, false≢true}
 use mathlib.Core.Option.{Option}
 use native.Mathlib.Omega.{arith}
-use lib.ListN.{set, getD, replicate}
-use lib.Seq.{getD-set-other}
-use lib.Dec.{eqb}
-use borrow.Author.Tests.{eqb-true, eqb-false}
+use lib.ListN.{set}
+use lib.Dec.{ltb, eqb}
+use borrow.Author.Tests.{eqb-true}
 use Rattle.nodes.specs.Cases.{either}
 use Rattle.sessions.specs.declared.Slot.{Slot}
 use Rattle.sessions.specs.declared.ModeSend.{ModeSend}
 use Rattle.sessions.specs.Search.{any, first, member}
-use Rattle.sessions.specs.Sessions.{targetCount, closedSlot, isFree, isNumbered, holds, close, named, marked, sessionSlot, modeSend, Finished, finish}
+use Rattle.sessions.specs.Sessions.{targetCount, closedSlot, isFree, isNumbered, holds, close, named, sessionSlot, modeSend, Finished, finish}
 unfoldable pub use Rattle.sessions.specs.Sessions.{holders, leftBy}
 use Rattle.sessions.specs.SessionLaws.{modeSend-leaves}
+use Rattle.sessions.specs.MarkLaws.{marks-exactly}
 
 -- one, if a test holds
 abbrev count : Bool → ℕ
@@ -46,25 +46,13 @@ none-holds n (s ∷ ss) e = go (holds n s) (none-holds n ss) e
     go true r e = absurd (true≢false e)
     go false r e = omega (arith, r e)
 
--- a node marked was marked before or is among the indices
-marked-member : (n : ℕ) (ns : List ℕ) (ms : List Bool) → member n ns ≡ false → getD (marked ms ns) n false ≡ getD ms n false
-unfolding marked any
-marked-member n [] ms e = refl
-marked-member n (m ∷ ns) ms e = go (eqb n m) refl (marked-member n ns (set ms m true)) e
-  where
-    go : (b : Bool) → eqb n m ≡ b → (member n ns ≡ false → getD (marked (set ms m true) ns) n false ≡ getD (set ms m true) n false)
-        → cond b true (member n ns) ≡ false → getD (marked (set ms m true) ns) n false ≡ getD ms n false
-    go true x r e = absurd (true≢false e)
-    go false x r e = r e ∙ getD-set-other ms m n true false (λ y. eqb-false n m x y)
-
-unmarked : (k n : ℕ) → getD (replicate k false) n false ≡ false
-unmarked zero n = refl
-unmarked (suc k) zero = refl
-unmarked (suc k) (suc n) = unmarked k n
-
 -- a node that is not among the indices is not held by the new session
 not-held : (n l : ℕ) (r : ModeSend) → member n (named r) ≡ false → holds n (sessionSlot l r) ≡ false
-not-held n l r e = marked-member n (named r) (replicate targetCount false) e ∙ unmarked targetCount n
+not-held n l r e = marks-exactly n l r ∙ rw e (none (ltb n targetCount))
+  where
+    none : (b : Bool) → (b && false) ≡ false
+    none true = refl
+    none false = refl
 
 -- a test that fails for a whole list fails for each of its members
 fails-each : (p : ℕ → Bool) (ns : List ℕ) (n : ℕ) → any p ns ≡ false → member n ns ≡ true → p n ≡ false

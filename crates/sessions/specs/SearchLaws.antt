@@ -1,6 +1,6 @@
 -- Laws of searching, for loops that go through a list.
 use Prim.Native.Nat.{ℕ, suc, _+_, _<_, _≤_}
-use mathlib.Core.Path.{_≡_, refl, sym, _∙_}
+use mathlib.Core.Path.{_≡_, refl, sym, ap, _∙_}
 use mathlib.Core.List.{List, [], _∷_, _++_}
 use mathlib.Core.Bool.{Bool, true, false, cond, _||_}
 use native.Mathlib.Numerals.{add-one}
@@ -60,6 +60,28 @@ module _ {A : Type 0} (p : A → Bool) where
       go : (b : Bool) → any p (l ++ a ∷ []) ≡ (any p l || p a) → cond b true (any p (l ++ a ∷ [])) ≡ (cond b true (any p l) || p a)
       go true e = refl
       go false e = e
+
+-- one of two tests, and one for each of two lists: which list is gone through first does not matter
+any-or : {B : Type 0} (p q : B → Bool) (l : List B) → any (λ b. cond (p b) true (q b)) l ≡ cond (any p l) true (any q l)
+unfolding any
+any-or p q [] = refl
+any-or p q (b ∷ l) = go (p b) (q b) (any p l) (any q l) (any-or p q l)
+  where
+    go : (a c x y : Bool) {z : Bool} → z ≡ cond x true y → cond (cond a true c) true z ≡ cond (cond a true x) true (cond c true y)
+    go true c x y e = refl
+    go false true true y e = refl
+    go false true false y e = refl
+    go false false x y e = e
+
+any-none : {B : Type 0} (l : List B) → any (λ b. false) l ≡ false
+unfolding any
+any-none [] = refl
+any-none (b ∷ l) = any-none l
+
+pub any-swap : {A B : Type 0} (f : A → B → Bool) (l : List A) (m : List B) → any (λ a. any (f a) m) l ≡ any (λ b. any (λ a. f a b) l) m
+unfolding any
+any-swap f [] m = sym (any-none m)
+any-swap f (a ∷ l) m = ap (cond (any (f a) m) true) (any-swap f l m) ∙ sym (any-or (f a) (λ b. any (λ a. f a b) l) m)
 
 pub any-below : (p : ℕ → Bool) (n : ℕ) → any p (below (n + 1)) ≡ (any p (below n) || p n)
 unfolding below

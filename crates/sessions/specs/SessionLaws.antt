@@ -19,7 +19,7 @@ use Rattle.sessions.specs.declared.Owner.the-variants.{Line, NotOpen}
 use Rattle.sessions.specs.declared.Ended.{Ended}
 use Rattle.sessions.specs.Search.{any, first, member, below}
 use Rattle.sessions.specs.SearchLaws.{member-last}
-use Rattle.sessions.specs.Sessions.{closedSlot, isOn, closeLine, holdsRemoved, closeRemoved, isFree, isNumbered, holds, close, closeAll, targetCount, maxIndices, named, targetsLegal, isLegal, marked, sessionSlot, modeSend, Finished, Ends}
+use Rattle.sessions.specs.Sessions.{closedSlot, isOpen, isOn, closeLine, holdsRemoved, closeRemoved, isFree, isNumbered, holds, close, closeAll, targetCount, maxIndices, named, targetsLegal, isLegal, withBit, marked, sessionSlot, modeSend, Finished, Ends}
 
 -- a mode send leaves the slots, or opens a session in the lowest free one, of whose nodes none is held
 pub modeSend-leaves : (P : List Slot → Type 0) (ss : List Slot) (t : List ℕ) (l : ℕ) (r : ModeSend) → P ss
@@ -49,19 +49,19 @@ close-none p e (s ∷ ss) = go (p s) refl (close-none p e ss)
 pub closeLine-none : (l : ℕ) (ss : List Slot) → any (isOn l) (closeLine l ss) ≡ false
 closeLine-none l ss = close-none (isOn l) refl ss
 
--- a free slot holds no node
-free-none : (f : ℕ → Bool) (l : List ℕ) → any (λ k. holds k closedSlot && f k) l ≡ false
+-- a slot without an open session holds no node
+free-none : (s : Slot) → isOpen s ≡ false → (f : ℕ → Bool) (l : List ℕ) → any (λ k. holds k s && f k) l ≡ false
 unfolding any
-free-none f [] = refl
-free-none f (k ∷ l) = free-none f l
+free-none s e f [] = refl
+free-none s e f (k ∷ l) = rw e (free-none s e f l)
 
-removed-none : (t bits : List ℕ) → holdsRemoved t bits closedSlot ≡ false
+pub removed-none : (t bits : List ℕ) (s : Slot) → isOpen s ≡ false → holdsRemoved t bits s ≡ false
 unfolding holdsRemoved
-removed-none t bits = free-none (isRemoved t bits) (below nodeCount)
+removed-none t bits s e = free-none s e (isRemoved t bits) (below nodeCount)
 
 -- and none holds a node that was removed
 pub closeRemoved-none : (t bits : List ℕ) (ss : List Slot) → any (holdsRemoved t bits) (closeRemoved t bits ss) ≡ false
-closeRemoved-none t bits ss = close-none (holdsRemoved t bits) (removed-none t bits) ss
+closeRemoved-none t bits ss = close-none (holdsRemoved t bits) (removed-none t bits closedSlot refl) ss
 
 -- a legal request has at most 20 indices
 pub legal-count : (t : List ℕ) (r : ModeSend) → isLegal t r ≡ true → r .count ≤ maxIndices
@@ -113,11 +113,11 @@ unfolding targetsLegal
 targets-end t is i h = rw (drop-of-length-le is h)
 
 -- and marking them
-pub marked-on : (ms : List Bool) (is : List ℕ) (i : ℕ) → i < length is → marked ms (drop i is) ≡ marked (set ms (getD is i 0) true) (drop (i + 1) is)
+pub marked-on : (ms is : List ℕ) (i : ℕ) → i < length is → marked ms (drop i is) ≡ marked (withBit ms (getD is i 0)) (drop (i + 1) is)
 unfolding marked
 marked-on ms is i h = rw (add-one, drop-cons is i 0, marked)
 
-pub marked-end : (ms : List Bool) (is : List ℕ) (i : ℕ) → length is ≤ i → marked ms (drop i is) ≡ ms
+pub marked-end : (ms is : List ℕ) (i : ℕ) → length is ≤ i → marked ms (drop i is) ≡ ms
 unfolding marked
 marked-end ms is i h = rw (drop-of-length-le is h)
 

@@ -11,7 +11,7 @@ use Rattle.sessions.specs.declared.Slot.{Slot}
 use Rattle.sessions.specs.declared.ModeSend.{ModeSend}
 use Rattle.sessions.specs.declared.Owner.the-variants.{Line, NotOpen}
 use Rattle.sessions.specs.Search.{any, first, below}
-use Rattle.sessions.specs.Sessions.{slotCount, targetCount, closedSlot, isFree, isNumbered, isOn, holds, holders, closeAll, closeLine, holdsRemoved, closeRemoved, modeSendSize, maxIndices, modeSendOf, targetsLegal, isLegal, marked, sessionSlot, modeSend, finish, refused, onLine, told, toldBy}
+use Rattle.sessions.specs.Sessions.{slotCount, targetCount, markBytes, closedSlot, isFree, isNumbered, isOn, holds, holders, closeAll, closeLine, holdsRemoved, closeRemoved, modeSendSize, maxIndices, modeSendOf, targetsLegal, isLegal, withBit, marked, sessionSlot, modeSend, finish, refused, onLine, told, toldBy}
 
 unfoldable nodes : List ℕ
 nodes = replicate (20 * 72) 1
@@ -38,12 +38,12 @@ unknown : map mayAsk (0 ∷ 4 ∷ 6 ∷ 7 ∷ 10 ∷ 14 ∷ 254 ∷ []) ≡ repl
 unfolding nodes mayAsk isLegal targetsLegal inUse any below
 unknown = refl
 
--- eight slots, 200 targets, 31 data bytes of a mode send and 20 indices
-sizes : slotCount ∷ targetCount ∷ modeSendSize ∷ maxIndices ∷ [] ≡ 8 ∷ 200 ∷ 31 ∷ 20 ∷ []
+-- eight slots, 200 targets and a bit for each, 31 data bytes of a mode send and 20 indices
+sizes : slotCount ∷ targetCount ∷ markBytes ∷ modeSendSize ∷ maxIndices ∷ [] ≡ 8 ∷ 200 ∷ 25 ∷ 31 ∷ 20 ∷ []
 sizes = refl
 
--- a closed slot is not used, and holds number 0, line 0 and no node
-closed : closedSlot ≡ record { used = false; number = 0; line = 0; nodes = replicate 200 false }
+-- a closed slot is not used, and holds line 0, number 0 and no node
+closed : closedSlot ≡ record { used = 0; line = 0; number = 0; nodes = replicate 25 0 }
 closed = refl
 
 -- virgin state and start leave closed slots
@@ -54,27 +54,28 @@ closed-all = refl
 unfoldable request : ℕ → List ℕ → ModeSend
 request x ns = record { session = x; originator = 1; priority = 3; count = length ns; indices = ns ++ replicate (20 - length ns) 5; lock = 0 }
 
--- a session has its number, its line, and of nodes 0 to 199 those that it names
-taken : sessionSlot 3 (request 0x0102 (0 ∷ 199 ∷ [])) ≡ record { used = true; number = 0x0102; line = 3; nodes = true ∷ replicate 198 false ++ true ∷ [] }
-unfolding request marked
+-- a session has its line, its number, and of nodes 0 to 199 those that it names: bits least significant first
+taken : sessionSlot 3 (request 0x0102 (9 ∷ 0 ∷ 199 ∷ 14 ∷ [])) ≡ record { used = 1; line = 3; number = 0x0102; nodes = 0x01 ∷ 0x42 ∷ replicate 22 0 ++ 0x80 ∷ [] }
+unfolding request marked bit withBit
 taken = refl
 
 -- it holds these, and neither those between nor one behind; a slot that is not used holds none
-unfoldable left : Slot
-left = record { used = false; number = 1; line = 2; nodes = replicate 200 true }
+unfoldable left : ℕ → Slot
+left used = record { used = used; line = 2; number = 1; nodes = replicate 25 255 }
 
-held-nodes : map (λ (n : ℕ). holds n (sessionSlot 3 (request 1 (0 ∷ 199 ∷ [])))) (0 ∷ 1 ∷ 198 ∷ 199 ∷ 200 ∷ []) ++ holds 0 left ∷ [] ≡ true ∷ false ∷ false ∷ true ∷ false ∷ false ∷ []
-unfolding request left marked
+held-nodes : map (λ (n : ℕ). holds n (sessionSlot 3 (request 1 (0 ∷ 199 ∷ [])))) (0 ∷ 1 ∷ 198 ∷ 199 ∷ 200 ∷ []) ++ holds 0 (left 0) ∷ [] ≡ true ∷ false ∷ false ∷ true ∷ false ∷ false ∷ []
+unfolding request left marked bit withBit
 held-nodes = refl
 
--- nor is it open under its number or on its line
-left-out : isFree left ∷ isNumbered 1 left ∷ isOn 2 left ∷ [] ≡ true ∷ false ∷ false ∷ []
-unfolding left
+-- nor is it open under its number or on its line; it is used exactly if its number for that is 1
+left-out : map (λ (u : ℕ). isFree (left u) ∷ isNumbered 1 (left u) ∷ isOn 2 (left u) ∷ holds 0 (left u) ∷ []) (0 ∷ 1 ∷ 2 ∷ 3 ∷ 255 ∷ [])
+    ≡ (true ∷ false ∷ false ∷ false ∷ []) ∷ (false ∷ true ∷ true ∷ true ∷ []) ∷ replicate 3 (true ∷ false ∷ false ∷ false ∷ [])
+unfolding left bit
 left-out = refl
 
 -- in how many open sessions node 5 is
-counted : holders 5 (sessionSlot 0 (request 1 (5 ∷ [])) ∷ left ∷ sessionSlot 1 (request 2 (6 ∷ [])) ∷ sessionSlot 2 (request 3 (7 ∷ 5 ∷ [])) ∷ []) ≡ 2
-unfolding request left marked holders
+counted : holders 5 (sessionSlot 0 (request 1 (5 ∷ [])) ∷ left 0 ∷ sessionSlot 1 (request 2 (6 ∷ [])) ∷ sessionSlot 2 (request 3 (7 ∷ 5 ∷ [])) ∷ []) ≡ 2
+unfolding request left marked holders bit withBit
 counted = refl
 
 -- index 199 is legal, and 200 is not, whatever lies behind the last record
@@ -90,7 +91,7 @@ unfoldable busy : List Slot
 busy = set (replicate 8 closedSlot) 0 (sessionSlot 0 (request 1 (5 ∷ [])))
 
 opened : modeSend (replicate 8 closedSlot) nodes 0 (request 1 (5 ∷ [])) ≡ record { status = 0; slots = busy }
-unfolding nodes request busy modeSend isLegal targetsLegal inUse any first marked
+unfolding nodes request busy modeSend isLegal targetsLegal inUse any first marked bit withBit
 opened = refl
 
 -- all slots are taken, by sessions with node 5
@@ -104,17 +105,17 @@ status ss r = modeSend ss nodes 1 r .status
 statuses : status busy (request 2 (20 ∷ [])) ∷ status busy (request 2 (7 ∷ 7 ∷ [])) ∷ status busy (request 1 (5 ∷ [])) ∷ status full (request 2 (7 ∷ []))
     ∷ status busy (request 2 (7 ∷ 5 ∷ [])) ∷ status busy (request 2 (7 ∷ [])) ∷ []
     ≡ 5 ∷ 5 ∷ 3 ∷ 4 ∷ 1 ∷ 0 ∷ []
-unfolding nodes request busy full status modeSend isLegal targetsLegal inUse any first marked
+unfolding nodes request busy full status modeSend isLegal targetsLegal inUse any first marked bit withBit
 statuses = refl
 
 -- the first that applies: 5 before 3, 3 before 4, 4 before 1
 firsts : status busy (request 1 (20 ∷ [])) ∷ status full (request 1 (7 ∷ [])) ∷ status full (request 2 (5 ∷ [])) ∷ [] ≡ 5 ∷ 3 ∷ 4 ∷ []
-unfolding nodes request busy full status modeSend isLegal targetsLegal inUse any first marked
+unfolding nodes request busy full status modeSend isLegal targetsLegal inUse any first marked bit withBit
 firsts = refl
 
 -- a session of the same line holds its nodes; the number in a free slot is not open
 held : modeSend busy nodes 0 (request 2 (5 ∷ [])) .status ∷ status busy (request 0 (7 ∷ [])) ∷ [] ≡ 1 ∷ 0 ∷ []
-unfolding nodes request busy status modeSend isLegal targetsLegal inUse any first marked
+unfolding nodes request busy status modeSend isLegal targetsLegal inUse any first marked bit withBit
 held = refl
 
 -- two slots with the same number: finish closes the lowest, and tells its line
@@ -122,22 +123,22 @@ unfoldable slot : ℕ → ℕ → Slot
 slot l x = sessionSlot l (request x (5 ∷ []))
 
 finished : finish (closedSlot ∷ slot 3 1 ∷ slot 2 1 ∷ []) 1 ∷ finish (slot 3 1 ∷ []) 2 ∷ [] ≡ some (record { line = 3; slots = closedSlot ∷ closedSlot ∷ slot 2 1 ∷ [] }) ∷ none ∷ []
-unfolding request slot finish any first marked
+unfolding request slot finish any first marked bit withBit
 finished = refl
 
 -- line 3 is closed: its session closes, and that of line 2 stays
 closed-line : closeLine 3 (slot 3 1 ∷ slot 2 2 ∷ []) ≡ closedSlot ∷ slot 2 2 ∷ []
-unfolding request slot marked
+unfolding request slot marked bit withBit
 closed-line = refl
 
 -- the lowest slot is freed and used again
 used-again : modeSend (closeLine 0 busy) nodes 3 (request 2 (7 ∷ [])) ≡ record { status = 0; slots = set busy 0 (sessionSlot 3 (request 2 (7 ∷ []))) }
-unfolding nodes request busy modeSend isLegal targetsLegal inUse any first marked
+unfolding nodes request busy modeSend isLegal targetsLegal inUse any first marked bit withBit
 used-again = refl
 
 -- node 7 is removed: of two sessions the one that has it closes, with its other node
 closed-removed : closeRemoved nodes (128 ∷ []) (sessionSlot 0 (request 1 (7 ∷ 5 ∷ [])) ∷ slot 0 2 ∷ []) ≡ closedSlot ∷ slot 0 2 ∷ []
-unfolding nodes request slot holdsRemoved any below bit inUse marked
+unfolding nodes request slot holdsRemoved any below bit inUse marked withBit
 closed-removed = refl
 
 -- a session with node 199 closes when it is removed, and stays when another is
@@ -145,7 +146,7 @@ unfoldable with-199 : Slot
 with-199 = sessionSlot 0 (request 1 (199 ∷ []))
 
 removed-last : map (λ (b : ℕ). holdsRemoved over (replicate 24 0 ++ b ∷ 255 ∷ []) with-199) (128 ∷ 127 ∷ []) ≡ true ∷ false ∷ []
-unfolding over request with-199 holdsRemoved any below bit inUse marked
+unfolding over request with-199 holdsRemoved any below bit inUse marked withBit
 removed-last = refl
 
 -- what finish tells: the line, or refusal 13; of both answers

@@ -1,12 +1,13 @@
 -- The sessions (document 01, mode send and the host calls): who holds which motor.
-use Prim.Native.Nat.{ℕ, _+_, _*_}
+use Prim.Native.Nat.{ℕ, _+_, _*_, _/_, _%_, _^_}
 use mathlib.Core.Path.{_≡_}
 use mathlib.Core.List.{List, [], _∷_, map}
 use mathlib.Core.Bool.{Bool, true, false, cond, not, _&&_}
 use mathlib.Core.Option.{Option, none, some}
 use lib.ListN.{take, drop, set, getD, replicate}
 use lib.Dec.{leb, ltb, eqb}
-use Rattle.nodes.specs.Table.{inUse, isRemoved, nodeCount}
+use lib.Bits.{bitOr}
+use Rattle.nodes.specs.Table.{inUse, bit, isRemoved, nodeCount}
 use Rattle.sessions.specs.declared.Slot.{Slot}
 use Rattle.sessions.specs.declared.ModeSend.{ModeSend}
 use Rattle.sessions.specs.declared.Sent.{Sent}
@@ -25,22 +26,31 @@ slotCount = 8
 abbrev pub targetCount : ℕ
 targetCount = 200
 
+-- a bit for each of these: 25 bytes
+abbrev pub markBytes : ℕ
+markBytes = 25
+
 -- a free slot holds nothing, so that a closed session leaves no node held
 abbrev pub closedSlot : Slot
-closedSlot = record { used = false; number = 0; line = 0; nodes = replicate targetCount false }
+closedSlot = record { used = 0; line = 0; number = 0; nodes = replicate markBytes 0 }
+
+-- a slot has an open session exactly if its number for that is 1, as a node is in use
+abbrev pub isOpen : Slot → Bool
+isOpen s = eqb (s .used) 1
 
 abbrev pub isFree : Slot → Bool
-isFree s = not (s .used)
+isFree s = not (isOpen s)
 
--- an open session has a number, a line and nodes; a slot that is not used is ignored, whatever it holds
+-- an open session has a number, a line and nodes; a slot without one is ignored, whatever it holds
 abbrev pub isNumbered : ℕ → Slot → Bool
-isNumbered x s = s .used && eqb (s .number) x
+isNumbered x s = isOpen s && eqb (s .number) x
 
 abbrev pub isOn : ℕ → Slot → Bool
-isOn l s = s .used && eqb (s .line) l
+isOn l s = isOpen s && eqb (s .line) l
 
+-- a node's bit is found as in the data of remove nodes
 abbrev pub holds : ℕ → Slot → Bool
-holds n s = s .used && getD (s .nodes) n false
+holds n s = isOpen s && bit (s .nodes) n
 
 -- in how many open sessions a node is
 unfoldable pub holders : ℕ → List Slot → ℕ
@@ -130,13 +140,17 @@ isLegal t r =
     leb 1 (r .count) && (leb (r .count) maxIndices && (targetsLegal t [] (named r)
     && (leb (r .priority) maxPriority && (leb (r .lock) maxLock && member (r .originator) originators))))
 
+-- bit n set; one behind the bytes' end is dropped
+unfoldable pub withBit : List ℕ → ℕ → List ℕ
+withBit ms n = set ms (n / 8) (bitOr (getD ms (n / 8) 0) (2 ^ (n % 8)))
+
 -- the nodes of a session, marked
-unfoldable pub marked : List Bool → List ℕ → List Bool
+unfoldable pub marked : List ℕ → List ℕ → List ℕ
 marked ms [] = ms
-marked ms (n ∷ ns) = marked (set ms n true) ns
+marked ms (n ∷ ns) = marked (withBit ms n) ns
 
 abbrev pub sessionSlot : ℕ → ModeSend → Slot
-sessionSlot l r = record { used = true; number = r .session; line = l; nodes = marked (replicate targetCount false) (named r) }
+sessionSlot l r = record { used = 1; line = l; number = r .session; nodes = marked (replicate markBytes 0) (named r) }
 
 -- the status, the first that applies: 5; 3 if the session number is open on any line; 4 if all slots are taken; 1 if a named node is in
 -- an open session, the same line's included; else 0, and the lowest free slot takes the session, its line and its nodes

@@ -35,7 +35,7 @@ pub fn close_removed(slots: [Slot; crate::SLOTS], table: &[u8], bits: &[u8]) -> 
 fn close_if_on(slot: Slot, line: u8) -> Slot
     ensures { λ r. ⌜ r ≡ closeIf (isOn line) slot ⌝ }
 {
-    if slot.used {
+    if crate::slots::is_open(slot) {
         if slot.line == line {
             return crate::slots::closed_slot();
         }
@@ -56,6 +56,9 @@ fn close_if_removed(slot: Slot, table: &[u8], bits: &[u8]) -> Slot
 fn holds_removed(slot: Slot, table: &[u8], bits: &[u8]) -> bool
     ensures { λ r. ⌜ r ≡ holdsRemoved (now (table .entry)) (now (bits .entry)) slot ⌝ }
 {
+    if !crate::slots::is_open(slot) {
+        return false;
+    }
     let mut found = false;
     let mut k = 0;
     while k < nodes::NODES {

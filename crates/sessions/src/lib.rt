@@ -12,13 +12,16 @@ pub use closing::close_removed;
 pub use opening::mode_send;
 pub use request::mode_send_of;
 pub use slots::finish;
+pub use slots::is_open;
 pub use slots::none;
 
-// Slots for all lines together, the nodes that a session may hold (0 to 199, a limit of mode send's own), and the data bytes and indices of a
-// mode send.
+// Slots for all lines together, the nodes that a session may hold (0 to 199, a limit of mode send's own), the bytes that have a bit for each of
+// these, and the data bytes and indices of a mode send.
 pub const SLOTS: usize = 8;
 
 pub const TARGETS: usize = 200;
+
+pub const MARKS: usize = 25;
 
 pub const MODE_SEND: usize = 31;
 
@@ -40,12 +43,13 @@ pub const NO_FREE_SLOT: u8 = 4;
 
 pub const ILLEGAL_PARAMETER: u8 = 5;
 
-// A session in its slot: its number, its line and its nodes. What a slot that is not used holds counts for nothing.
+// A session in its slot: its line, its number and a bit for each of its nodes, least significant first.
+// The slot is in use exactly if `used` is 1; what another holds counts for nothing.
 pub struct Slot {
-    pub used: bool,
-    pub number: u16,
+    pub used: u8,
     pub line: u8,
-    pub nodes: [bool; TARGETS],
+    pub number: u16,
+    pub nodes: [u8; MARKS],
 }
 
 // What a mode send asks for: the first `count` of its indices name its nodes.

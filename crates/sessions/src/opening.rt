@@ -2,10 +2,9 @@
 // The answer is that of specs/Sessions.antt: modeSend. What is legal stands in `targets`, the slots in `slots`.
 ghost use Prim.Native.Nat.{_≤_};
 ghost use mathlib.Core.Path.{_≡_};
-ghost use mathlib.Core.Bool.{true, false};
-ghost use lib.ListN.{set, replicate};
+ghost use lib.ListN.{replicate};
 ghost use Rattle.sessions.specs.Search.{any, first};
-ghost use Rattle.sessions.specs.Sessions.{targetCount, isFree, holds, maxIndices, marked, sessionSlot, modeSend};
+ghost use Rattle.sessions.specs.Sessions.{markBytes, isFree, holds, maxIndices, withBit, marked, sessionSlot, modeSend};
 use crate::ModeSend;
 use crate::Sent;
 use crate::Slot;
@@ -56,8 +55,7 @@ fn first_free(slots: [Slot; crate::SLOTS]) -> usize
 {
     let mut k = 0;
     while k < crate::SLOTS {
-        let slot = slots[k];
-        if !slot.used {
+        if !crate::slots::is_open(slots[k]) {
             return k;
         }
         k += 1;
@@ -65,13 +63,13 @@ fn first_free(slots: [Slot; crate::SLOTS]) -> usize
     k
 }
 
-// Whether some open session holds a node, and whether one holds some of these nodes.
-fn is_held(slots: [Slot; crate::SLOTS], node: usize) -> bool
-    ensures { λ r. ⌜ r ≡ any (holds node) slots ⌝ }
+// Whether some open session holds one of these nodes, and whether that of a slot does.
+fn any_held(slots: [Slot; crate::SLOTS], indices: &[u8]) -> bool
+    ensures { λ r. ⌜ r ≡ any (λ n. any (holds n) slots) (now (indices .entry)) ⌝ }
 {
     let mut k = 0;
     while k < crate::SLOTS {
-        if crate::slots::holds(slots[k], node) {
+        if holds_any(slots[k], indices) {
             return true;
         }
         k += 1;
@@ -79,13 +77,12 @@ fn is_held(slots: [Slot; crate::SLOTS], node: usize) -> bool
     false
 }
 
-fn any_held(slots: [Slot; crate::SLOTS], indices: &[u8]) -> bool
-    ensures { λ r. ⌜ r ≡ any (λ n. any (holds n) slots) (now (indices .entry)) ⌝ }
+fn holds_any(slot: Slot, indices: &[u8]) -> bool
+    ensures { λ r. ⌜ r ≡ any (λ n. holds n slot) (now (indices .entry)) ⌝ }
 {
     let mut i = 0;
     while i < indices.len() {
-        let node = indices[i] as usize;
-        if is_held(slots, node) {
+        if crate::slots::holds(slot, indices[i] as usize) {
             return true;
         }
         i += 1;
@@ -103,18 +100,18 @@ fn session_slot(line: u8, request: ModeSend) -> Slot
     let count = request.count as usize;
     let nodes = marked(&indices[..count]);
     Slot {
-        used: true,
-        number,
+        used: 1,
         line,
+        number,
         nodes,
     }
 }
 
-// The nodes that the indices name.
-fn marked(indices: &[u8]) -> [bool; crate::TARGETS]
-    ensures { λ r. ⌜ r ≡ marked (replicate targetCount false) (now (indices .entry)) ⌝ }
+// The nodes that the indices name, a bit for each.
+fn marked(indices: &[u8]) -> [u8; crate::MARKS]
+    ensures { λ r. ⌜ r ≡ marked (replicate markBytes 0) (now (indices .entry)) ⌝ }
 {
-    let mut marks = [false; crate::TARGETS];
+    let mut marks = [0; crate::MARKS];
     let mut i = 0;
     while i < indices.len() {
         let next = with_mark(marks, indices[i] as usize);
@@ -125,12 +122,14 @@ fn marked(indices: &[u8]) -> [bool; crate::TARGETS]
 }
 
 // One node more.
-fn with_mark(marks: [bool; crate::TARGETS], node: usize) -> [bool; crate::TARGETS]
-    ensures { λ r. ⌜ r ≡ set marks node true ⌝ }
+fn with_mark(marks: [u8; crate::MARKS], node: usize) -> [u8; crate::MARKS]
+    ensures { λ r. ⌜ r ≡ withBit marks node ⌝ }
 {
     let mut out = marks;
-    if node < crate::TARGETS {
-        out[node] = true;
+    let k = node / 8;
+    if k < crate::MARKS {
+        let shift = (node % 8) as u8;
+        out[k] = marks[k] | (1 << shift);
     }
     out
 }

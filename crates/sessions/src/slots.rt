@@ -1,9 +1,9 @@
 // The session slots: a free one, one found by its number, and finishing it (document 01, host calls).
-// Answers are those of specs/Sessions.antt: closedSlot, isNumbered, holds, finish.
+// Answers are those of specs/Sessions.antt: closedSlot, isOpen, isNumbered, holds, finish.
 ghost use mathlib.Core.Path.{_≡_};
 ghost use lib.ListN.{replicate};
 ghost use Rattle.sessions.specs.Search.{first};
-ghost use Rattle.sessions.specs.Sessions.{slotCount, closedSlot, isNumbered, holds, finish, Ends};
+ghost use Rattle.sessions.specs.Sessions.{slotCount, closedSlot, isOpen, isNumbered, holds, finish, Ends};
 use crate::Ended;
 use crate::Owner;
 use crate::Slot;
@@ -14,6 +14,13 @@ pub fn none() -> [Slot; crate::SLOTS]
 {
     let slot = closed_slot();
     [slot; crate::SLOTS]
+}
+
+// Whether a slot has an open session.
+pub fn is_open(slot: Slot) -> bool
+    ensures { λ r. ⌜ r ≡ isOpen slot ⌝ }
+{
+    slot.used == 1
 }
 
 // The session with a number closes, in the lowest slot that has it.
@@ -55,11 +62,9 @@ pub(crate) fn first_numbered(slots: [Slot; crate::SLOTS], number: u16) -> usize
 pub(crate) fn holds(slot: Slot, node: usize) -> bool
     ensures { λ r. ⌜ r ≡ holds node slot ⌝ }
 {
-    if slot.used {
-        if node < crate::TARGETS {
-            let nodes = slot.nodes;
-            return nodes[node];
-        }
+    if is_open(slot) {
+        let marks = slot.nodes;
+        return nodes::bit(&marks, node);
     }
     false
 }
@@ -69,10 +74,10 @@ pub(crate) fn closed_slot() -> Slot
     ensures { λ r. ⌜ r ≡ closedSlot ⌝ }
 {
     Slot {
-        used: false,
-        number: 0,
+        used: 0,
         line: 0,
-        nodes: [false; crate::TARGETS],
+        number: 0,
+        nodes: [0; crate::MARKS],
     }
 }
 
@@ -80,7 +85,7 @@ pub(crate) fn closed_slot() -> Slot
 fn is_numbered(slot: Slot, number: u16) -> bool
     ensures { λ r. ⌜ r ≡ isNumbered number slot ⌝ }
 {
-    if slot.used {
+    if is_open(slot) {
         return slot.number == number;
     }
     false

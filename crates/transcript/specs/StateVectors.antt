@@ -2,15 +2,14 @@
 use Prim.Native.Nat.{ℕ, _-_, _*_}
 use mathlib.Core.Path.{_≡_, refl}
 use mathlib.Core.List.{List, [], _∷_, _++_, map}
-use mathlib.Core.Bool.{Bool, true, false}
-use lib.ListN.{set, replicate}
+use lib.ListN.{replicate}
 use Rattle.line.specs.declared.Fault.the-variants as fault
 use Rattle.line.specs.declared.Mode.the-variants as mode
 use Rattle.line.specs.declared.Reading.{Reading}
 use Rattle.frame.specs.Reader.{taken}
-use Rattle.nodes.specs.Table.{recordSize}
+use Rattle.nodes.specs.Table.{recordSize, bit}
 use Rattle.sessions.specs.declared.Slot.{Slot}
-use Rattle.sessions.specs.Sessions.{slotCount, closedSlot, targetCount}
+use Rattle.sessions.specs.Sessions.{slotCount, closedSlot}
 use Rattle.rules.specs.declared.Hub.{Hub}
 use Rattle.text.specs.Text.{ascii, digit, decimalIn, decimal}
 use Rattle.text.specs.Appended.{appended}
@@ -20,12 +19,12 @@ use Rattle.report.specs.State.{flag, loginLine, nodeWord, nodesBelow, slotLine,
 use Rattle.transcript.specs.Lines.{appendedAll, linesBelow}
 use Rattle.transcript.specs.State.{slotLines, recordLines, nodeLines, modeOf, readingLines, stateLines}
 
--- a session in slot 2, and in slot 0 what a closed one might have left
-session : Bool → Slot
-session used = record { used = used; number = 0x01A2; line = 3; nodes = set (replicate targetCount false) 7 true }
+-- a session in slot 2, and in slots 0 and 1 what a closed one might have left
+session : ℕ → Slot
+session used = record { used = used; line = 3; number = 0x01A2; nodes = 0x80 ∷ replicate 24 0 }
 
 hub : Hub
-hub = record { password = []; logins = false ∷ true ∷ false ∷ false ∷ []; slots = set (set (replicate slotCount closedSlot) 0 (session false)) 2 (session true) }
+hub = record { password = []; logins = 0 ∷ 1 ∷ 2 ∷ 255 ∷ []; slots = session 0 ∷ session 2 ∷ session 1 ∷ replicate (slotCount - 3) closedSlot }
 
 -- two records, of which the second is in use, and the front of a third
 table : List ℕ
@@ -54,7 +53,7 @@ state : stateLines hub table (map taken readings)
     ∷ ascii "end\n"
     ∷ []
 unfolding session hub table readings node
-    ascii digit decimalIn decimal hexPairs bytesWord hasOther flag loginLine nodeWord nodesBelow slotLine nodeLine modeWord readingLine endLine
+    ascii digit decimalIn decimal hexPairs bytesWord hasOther bit flag loginLine nodeWord nodesBelow slotLine nodeLine modeWord readingLine endLine
     linesBelow slotLines recordLines nodeLines modeOf readingLines stateLines
 state = refl
 

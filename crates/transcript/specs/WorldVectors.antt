@@ -2,7 +2,6 @@
 use Prim.Native.Nat.{ℕ}
 use mathlib.Core.Path.{_≡_, refl}
 use mathlib.Core.List.{List, [], _∷_, _++_, map}
-use mathlib.Core.Bool.{true, false}
 use mathlib.Core.Option.{none, some}
 use lib.ListN.{set, replicate}
 use Rattle.frame.specs.Frame as frame
@@ -21,10 +20,10 @@ use Rattle.report.specs.Report.{badLine, doneLine, lineEnd, refusedLine, finish
 use Rattle.transcript.specs.World.{World, Played, callTold, finishTold, outcomeTold, feedTold, start, enrol, feed, close, finish, bad, play}
 
 abbrev opened : Slot
-opened = record { used = true; number = 0x0102; line = 2; nodes = replicate sessions.targetCount false }
+opened = record { used = 1; line = 2; number = 0x0102; nodes = replicate sessions.markBytes 0 }
 
 abbrev hubWith : Slot → Hub
-hubWith s = record { password = replicate 32 0; logins = false ∷ false ∷ true ∷ false ∷ []; slots = s ∷ [] }
+hubWith s = record { password = replicate 32 0; logins = 0 ∷ 0 ∷ 1 ∷ 0 ∷ []; slots = s ∷ [] }
 
 -- line 0 holds two bytes, line 3 one
 abbrev world : Hub → List ℕ → State → World

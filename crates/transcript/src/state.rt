@@ -1,15 +1,16 @@
 // The state as `show` writes it: lines of text, appended one behind the other to lent memory at a place.
 // Each is written whole or not at all, and they are the definition's to the byte: specs/State.antt.
 ghost use Prim.Native.Nat.{_<_};
+ghost use mathlib.Core.Path.{_≡_};
 ghost use mathlib.Core.List.{map};
 ghost use lib.ListN.{getD};
 ghost use Rattle.text.specs.Appended.{Leaves};
 ghost use Rattle.frame.specs.Reader.{emptied, taken};
 ghost use Rattle.nodes.specs.Table.{nodeCount};
 ghost use Rattle.sessions.specs.Sessions.{slotCount, closedSlot};
-ghost use Rattle.rules.specs.Hub.{lineCount};
+ghost use Rattle.rules.specs.Hub.{lineCount, isListed};
 ghost use Rattle.transcript.specs.Lines.{appendedAll, linesBelow};
-ghost use Rattle.transcript.specs.State.{slotLines, recordLines, nodeLines, readingLines, stateLines};
+ghost use Rattle.transcript.specs.State.{lines, slotLines, recordLines, nodeLines, readingLines, stateLines};
 use line::Reading;
 use rules::Hub;
 use rules::LINES;
@@ -26,13 +27,26 @@ pub(crate) fn show(
 ) -> usize
     ensures { λ r. ⌜ Leaves (appendedAll (now (out .entry)) at (stateLines hub (now (table .entry)) (map taken readings))) (now (out .exit)) r ⌝ }
 {
-    let logins = hub.logins;
+    let known = hub.logins;
+    let logins = logged_in(known);
     let slots = hub.slots;
     let first_slot = report::login_line(out, at, logins);
     let first_node = show_slots(out, first_slot, slots);
     let first_reading = show_nodes(out, first_node, table);
     let last = show_readings(out, first_reading, readings);
     text::append(out, last, &report::END_LINE)
+}
+
+// Which lines are logged in.
+fn logged_in(logins: [u8; LINES]) -> [bool; LINES]
+    ensures { λ r. ⌜ r ≡ map (isListed logins) lines ⌝ }
+{
+    [
+        rules::is_logged_in(logins, 0),
+        rules::is_logged_in(logins, 1),
+        rules::is_logged_in(logins, 2),
+        rules::is_logged_in(logins, 3),
+    ]
 }
 
 fn show_slots(out: &mut [u8], at: usize, slots: [Slot; SLOTS]) -> usize
@@ -51,7 +65,7 @@ fn show_slots(out: &mut [u8], at: usize, slots: [Slot; SLOTS]) -> usize
 fn show_slot(out: &mut [u8], at: usize, k: u8, slot: Slot) -> usize
     ensures { λ r. ⌜ Leaves (appendedAll (now (out .entry)) at (slotLines k slot)) (now (out .exit)) r ⌝ }
 {
-    if !slot.used {
+    if !sessions::is_open(slot) {
         return at;
     }
     let number = slot.number;

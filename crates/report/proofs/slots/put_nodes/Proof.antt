@@ -2,6 +2,7 @@ use Prim.Native.Nat.{_-_, _≤_}
 use mathlib.Core.Path.{_≡_}
 use native.Mathlib.Numerals.{add-one}
 use native.Mathlib.Omega.{arith}
+use borrow.Author.Needs.{needs}
 use Rattle.memory.specs.Wrote.{Wrote}
 use Rattle.memory.specs.WroteLaws.{none, then, kept}
 use Rattle.sessions.specs.Sessions.{targetCount}
@@ -21,13 +22,16 @@ loop-holds : tie.Need-loop-holds Inv-loop μ-loop
 unfolding nodesBelow
 loop-holds c = (omega arith, none _ _)
 
-array-read-node-word : tie.Need-array-read-node-word Inv-loop μ-loop
-array-read-node-word c = omega arith
+slice-aggregate-bit : tie.Need-slice-aggregate-bit Inv-loop μ-loop
+slice-aggregate-bit c = search needs
+
+bit-requires : tie.Need-bit-requires Inv-loop μ-loop
+bit-requires c κs = search needs
 
 node-word-requires : tie.Need-node-word-requires Inv-loop μ-loop
 node-word-requires c κs =
-    let l = c .before .before .loop in
-    (omega arith, omega (arith, c .before .before .before .before .pre, l .inv .1 .place, kept (l .inv .1), nodesBelow-short (l .node) (c .before .before .before .before .args .t3) (l .inv .0)))
+    let l = c .before .before .before .before .loop in
+    (omega arith, omega (arith, c .before .before .before .before .before .before .pre, l .inv .1 .place, kept (l .inv .1), nodesBelow-short (l .node) (c .before .before .before .before .before .before .args .t3) (l .inv .0)))
 
 add-node : tie.Need-add-node Inv-loop μ-loop
 add-node c = omega arith
@@ -37,7 +41,9 @@ loop-less c = omega arith
 
 loop-again : tie.Need-loop-again Inv-loop μ-loop
 unfolding nodesBelow
-loop-again c = (omega arith, rw add-one (then (c .before .before .before .before .before .loop .inv .1) (c .before .before .node-word .ensures)))
+loop-again c =
+    let more = rw (c .before .before .before .bit .ensures) at (c .before .before .node-word .ensures) in
+    (omega arith, rw add-one (then (c .before .before .before .before .before .before .before .loop .inv .1) more))
 
 same-length : tie.Need-same-length Inv-loop μ-loop
 same-length c = kept (c .before .loop .inv .1)
@@ -55,7 +61,8 @@ put-nodes-spec =
     Inv-loop
     μ-loop
     loop-holds
-    array-read-node-word
+    slice-aggregate-bit
+    bit-requires
     node-word-requires
     add-node
     loop-less

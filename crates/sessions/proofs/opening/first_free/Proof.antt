@@ -1,5 +1,6 @@
 use Prim.Native.Nat.{_≤_, _<_, _-_, _+_}
-use mathlib.Core.Path.{_≡_, sym, _∙_}
+use mathlib.Core.Bool.{not}
+use mathlib.Core.Path.{_≡_, sym, ap, _∙_}
 use native.Mathlib.Nat.{zero-add}
 use native.Mathlib.Omega.{arith}
 use lib.ListN.{length, drop}
@@ -23,14 +24,17 @@ within c = omega arith
 loop-holds : tie.Need-loop-holds Inv-loop μ-loop
 loop-holds c = (search needs, search needs, sym (zero-add _))
 
-mul-slot : tie.Need-mul-slot Inv-loop μ-loop
-mul-slot c = search needs
+mul-is-open : tie.Need-mul-is-open Inv-loop μ-loop
+mul-is-open c = search needs
 
-array-copy-out-slot : tie.Need-array-copy-out-slot Inv-loop μ-loop
-array-copy-out-slot c = search needs
+array-copy-out-is-open : tie.Need-array-copy-out-is-open Inv-loop μ-loop
+array-copy-out-is-open c = search needs
+
+is-open-requires : tie.Need-is-open-requires Inv-loop μ-loop
+is-open-requires c κs = search needs
 
 returns : tie.Need-returns Inv-loop μ-loop
-returns c = sym (c .before .before .before .before .loop .inv .2 ∙ first-found _ _ _ _ (within (c .before .before .before)) (c .if1 .taken))
+returns c = sym (c .before .before .before .before .loop .inv .2 ∙ first-found _ _ _ _ (within (c .before .before .before)) (ap not (sym (c .before .is-open .ensures)) ∙ c .if1 .taken))
 
 add-k : tie.Need-add-k Inv-loop μ-loop
 add-k c = search needs
@@ -39,7 +43,7 @@ loop-less : tie.Need-loop-less Inv-loop μ-loop
 loop-less c = search needs
 
 loop-again : tie.Need-loop-again Inv-loop μ-loop
-loop-again c = (search needs, search needs, c .before .before .before .before .loop .inv .2 ∙ first-on _ _ _ _ (within (c .before .before .before)) (c .if1 .left))
+loop-again c = (search needs, search needs, c .before .before .before .before .loop .inv .2 ∙ first-on _ _ _ _ (within (c .before .before .before)) (ap not (sym (c .before .is-open .ensures)) ∙ c .if1 .left))
 
 returns-2 : tie.Need-returns-2 Inv-loop μ-loop
 returns-2 c = sym (c .before .loop .inv .2 ∙ first-end _ (c .before .before .args .t1) (c .before .loop .k) (omega arith))
@@ -51,8 +55,9 @@ first-free-spec =
     Inv-loop
     μ-loop
     loop-holds
-    mul-slot
-    array-copy-out-slot
+    mul-is-open
+    array-copy-out-is-open
+    is-open-requires
     returns
     add-k
     loop-less

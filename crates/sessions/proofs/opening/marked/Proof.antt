@@ -1,17 +1,16 @@
 use Prim.Native.Nat.{_≤_, _-_}
-use mathlib.Core.Bool.{false}
 use mathlib.Core.Path.{_≡_, refl, sym, _∙_}
 use native.Mathlib.Omega.{arith}
 use lib.ListN.{length, drop, replicate}
 use borrow.Author.Needs.{needs}
-use Rattle.sessions.specs.Sessions.{targetCount, marked}
+use Rattle.sessions.specs.Sessions.{markBytes, marked}
 use Rattle.sessions.specs.SessionLaws.{marked-on, marked-end}
 use Rattle.sessions.proofs.opening.marked.Statement.{statement}
 use Rattle.sessions.proofs.opening.marked.Tie as tie
 
 -- The indices before the place are marked.
 abbrev Inv-loop : tie.InvT-loop
-Inv-loop indices marks₀ i₀ marks i = (i ≤ length indices) × (marked (replicate targetCount false) indices ≡ marked marks (drop i indices))
+Inv-loop indices marks₀ i₀ marks i = (i ≤ length indices) × (marked (replicate markBytes 0) indices ≡ marked marks (drop i indices))
 
 abbrev μ-loop : tie.MeasureT-loop
 μ-loop indices marks₀ i₀ marks i = length indices - i

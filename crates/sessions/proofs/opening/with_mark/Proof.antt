@@ -1,24 +1,41 @@
-use mathlib.Core.Path.{_≡_, sym}
-use mathlib.Core.Bool.{true}
+use Prim.Native.Nat.{ℕ, _*_, _/_, _%_, _^_}
+use mathlib.Core.Path.{_≡_, sym, _∙_}
+use native.Mathlib.Nat.{one-mul}
 use native.Mathlib.Omega.{arith}
 use lib.ListN.{length}
 use lib.Seq.{set-out}
+use lib.Pow.{shl-exact}
 use borrow.Author.Needs.{needs}
-use Rattle.sessions.specs.Sessions.{targetCount}
+use Rattle.sessions.specs.Sessions.{markBytes, withBit}
 use Rattle.sessions.proofs.opening.with_mark.Statement.{statement}
 use Rattle.sessions.proofs.opening.with_mark.Tie as tie
 
-long : (c : tie.Else1) → length (c .before .args .marks) ≡ targetCount
-long c = search needs
+cast-shift : tie.Need-cast-shift
+cast-shift c = search needs
+
+array-read-out : tie.Need-array-read-out
+array-read-out c = search needs
+
+shl-out : tie.Need-shl-out
+shl-out c = search needs
 
 array-write-out : tie.Need-array-write-out
 array-write-out c = search needs
 
+-- no bit is shifted out of its byte
+shifted : (n : ℕ) → 1 * 2 ^ (n % 8) % 256 ≡ 2 ^ (n % 8)
+shifted n = shl-exact 1 (n % 8) 8 (omega arith) (omega arith) ∙ one-mul (2 ^ (n % 8))
+
 returns : tie.Need-returns
-returns c = search needs
+unfolding withBit
+returns c = rw (shifted (c .before .args .node))
 
 returns-2 : tie.Need-returns-2
-returns-2 c = sym (set-out (c .before .args .marks) (c .before .args .node) true (omega (arith, long c)))
+unfolding withBit
+returns-2 c =
+    let long : length (c .before .args .t1) ≡ markBytes = search needs in
+    sym (set-out (c .before .args .t1) (c .before .args .node / 8) _ (omega (arith, long, c .if1 .left)))
 
 pub with-mark-spec : {M : Type 1} → statement M
-with-mark-spec = tie.close (tie.spec array-write-out returns returns-2)
+with-mark-spec =
+    tie.close (tie.spec cast-shift array-read-out shl-out array-write-out returns returns-2)

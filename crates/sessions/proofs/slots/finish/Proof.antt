@@ -1,5 +1,4 @@
 use mathlib.Core.List.{[]}
-use mathlib.Core.Bool.{false}
 use mathlib.Core.Path.{_≡_, _∙_}
 use native.Mathlib.Omega.{arith}
 use lib.Dec.{ltb}
@@ -17,7 +16,7 @@ use Rattle.sessions.proofs.slots.finish.Tie as tie
 place : (c : tie.After-first-numbered) → any (isNumbered (c .before .args .number)) (c .before .args .t1) ≡ ltb (c .first-numbered .result) slotCount
 place c = let long : length (c .before .args .t1) ≡ slotCount = search needs in any-first _ (c .before .args .t1) ∙ rw (← c .first-numbered .ensures, long)
 
-there : (c : tie.Else1) → getD (c .before .before .args .t1) (first (isNumbered (c .before .before .args .number)) (c .before .before .args .t1)) (record { used = false; number = 0; line = 0; nodes = [] })
+there : (c : tie.Else1) → getD (c .before .before .args .t1) (first (isNumbered (c .before .before .args .number)) (c .before .before .args .t1)) (record { used = 0; line = 0; number = 0; nodes = [] })
     ≡ getD (c .before .before .args .t1) (first (isNumbered (c .before .before .args .number)) (c .before .before .args .t1)) closedSlot
 there c =
     let long : length (c .before .before .args .t1) ≡ slotCount = search needs in

@@ -1,26 +1,23 @@
-use mathlib.Core.Path.{_≡_, sym}
-use mathlib.Core.Bool.{false}
-use native.Mathlib.Omega.{arith}
-use lib.ListN.{length, List·getD-eq-default}
+use mathlib.Core.Path.{sym, _∙_}
 use borrow.Author.Needs.{needs}
-use Rattle.sessions.specs.Sessions.{targetCount}
 use Rattle.sessions.proofs.slots.holds.Statement.{statement}
 use Rattle.sessions.proofs.slots.holds.Tie as tie
 
-long : (c : tie.Else2) → length (c .before .before .args .slot .nodes) ≡ targetCount
-long c = search needs
+is-open-requires : tie.Need-is-open-requires
+is-open-requires c κs = search needs
 
-array-read-result : tie.Need-array-read-result
-array-read-result c = search needs
+slice-aggregate-bit : tie.Need-slice-aggregate-bit
+slice-aggregate-bit c = search needs
+
+bit-requires : tie.Need-bit-requires
+bit-requires c κs = search needs
 
 returns : tie.Need-returns
-returns c = simp (c .before .before .if1 .taken)
+returns c = c .bit .ensures ∙ simp (sym (c .before .before .before .before .is-open .ensures) ∙ c .before .before .before .if1 .taken)
 
 returns-2 : tie.Need-returns-2
-returns-2 c = simp (c .before .if1 .taken) (sym (List·getD-eq-default (c .before .before .args .slot .nodes) false {n = c .before .before .args .node} (omega (arith, long c))))
-
-returns-3 : tie.Need-returns-3
-returns-3 c = search needs
+returns-2 c = simp (sym (c .before .is-open .ensures) ∙ c .if1 .left)
 
 pub holds-spec : {M : Type 1} → statement M
-holds-spec = tie.close (tie.spec array-read-result returns returns-2 returns-3)
+holds-spec =
+    tie.close (tie.spec is-open-requires slice-aggregate-bit bit-requires returns returns-2)

@@ -1,12 +1,16 @@
+use mathlib.Core.Path.{sym, _∙_}
 use borrow.Author.Needs.{needs}
 use Rattle.sessions.proofs.slots.is_numbered.Statement.{statement}
 use Rattle.sessions.proofs.slots.is_numbered.Tie as tie
 
+is-open-requires : tie.Need-is-open-requires
+is-open-requires c κs = search needs
+
 returns : tie.Need-returns
-returns c = simp (c .before .if1 .taken)
+returns c = simp (sym (c .before .before .is-open .ensures) ∙ c .before .if1 .taken)
 
 returns-2 : tie.Need-returns-2
-returns-2 c = search needs
+returns-2 c = simp (sym (c .before .is-open .ensures) ∙ c .if1 .left)
 
 pub is-numbered-spec : {M : Type 1} → statement M
-is-numbered-spec = tie.close (tie.spec returns returns-2)
+is-numbered-spec = tie.close (tie.spec is-open-requires returns returns-2)

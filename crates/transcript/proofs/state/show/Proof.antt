@@ -6,6 +6,9 @@ use borrow.Author.Needs.{needs}
 use Rattle.transcript.proofs.state.show.Statement.{statement}
 use Rattle.transcript.proofs.state.show.Tie as tie
 
+logged-in-requires : tie.Need-logged-in-requires
+logged-in-requires c κs = search needs
+
 login-line-requires : tie.Need-login-line-requires
 login-line-requires c κs = search needs
 
@@ -30,10 +33,11 @@ same-length c = search needs
 returns : tie.Need-returns
 unfolding stateLines endLine ascii
 returns c =
+    let login = rw (c .before .before .before .before .before .before .before .before .before .before .before .before .before .before .before .before .before .before .before .before .before .before .logged-in .ensures) at (c .before .before .before .before .before .before .before .before .before .before .before .before .before .before .before .before .before .before .before .login-line .ensures) in
     all-then _ _ _ _
     (all-then _ _ _ _
     (all-then _ _ _ _
-    (all-then _ _ _ _ (all-one _ _ _ (c .before .before .before .before .before .before .before .before .before .before .before .before .before .before .before .before .before .before .before .login-line .ensures)) (c .before .before .before .before .before .before .before .before .before .before .before .before .before .before .before .show-slots .ensures))
+    (all-then _ _ _ _ (all-one _ _ _ login) (c .before .before .before .before .before .before .before .before .before .before .before .before .before .before .before .show-slots .ensures))
     (c .before .before .before .before .before .before .before .before .before .before .before .show-nodes .ensures))
     (c .before .before .before .before .before .before .before .show-readings .ensures))
     (all-one _ _ _ (c .before .before .append .ensures))
@@ -42,6 +46,7 @@ pub show-spec : {M : Type 1} → statement M
 show-spec =
     tie.close
     (tie.spec
+    logged-in-requires
     login-line-requires
     show-slots-requires
     show-nodes-requires
