@@ -4,6 +4,7 @@
 mod refusals;
 
 use frame::FrameOutcome;
+use line::Place;
 use line::Reading;
 pub use refusals::number;
 use sessions::Slot;
@@ -73,6 +74,13 @@ pub struct FedByValue {
     pub answer: FeedAnswer,
     pub hub: Hub,
     pub reading: Reading,
+}
+
+// The same apart from the record's bytes, which lie where they were lent.
+pub struct FedAt {
+    pub answer: FeedAnswer,
+    pub hub: Hub,
+    pub place: Place,
 }
 
 // What close and feed on a lent record give back beside it.
