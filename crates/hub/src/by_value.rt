@@ -2,11 +2,14 @@
 // answer. A caller of these needs no proof by hand, as one that lends a record itself does.
 ghost use mathlib.Core.Path.{_≡_};
 ghost use Rattle.rules.specs.Promises.{Closes, Feeds};
+ghost use Rattle.requests.specs.Answers.{readingAt};
 ghost use Rattle.hub.specs.Parts.{closedWith, fedWith};
+use line::Place;
 use line::Reading;
 use rules::Closed;
 use rules::ClosedByValue;
 use rules::Fed;
+use rules::FedAt;
 use rules::FedByValue;
 use rules::Hub;
 
@@ -24,6 +27,21 @@ pub fn feed_by_value(
     let mut lent = reading;
     let fed = crate::lent::feed(hub, table, &mut lent, line, bytes, room);
     fed_with(fed, lent)
+}
+
+// The same on a record whose bytes stay where they lie: they are not copied.
+pub fn feed_in(
+    hub: Hub,
+    table: &mut [u8],
+    held: &mut [u8; line::LIMIT],
+    place: Place,
+    line: u8,
+    bytes: &[u8],
+    room: &mut [u8],
+) -> FedAt
+    ensures { λ r. ⌜ Feeds hub (now (table .entry)) (readingAt (now (held .entry)) place) line (now (bytes .entry)) (now (room .entry)) (r .answer) (r .hub) (now (table .exit)) (readingAt (now (held .exit)) (r .place)) (now (room .exit)) ⌝ }
+{
+    requests::call_in(hub, table, held, place, line, bytes, room)
 }
 
 // A line is closed: its login is lost, its reading state emptied, its sessions closed.

@@ -8,6 +8,7 @@ mod lent;
 
 pub use by_value::close_by_value;
 pub use by_value::feed_by_value;
+pub use by_value::feed_in;
 pub use host::enrol;
 pub use host::finish;
 pub use host::first;

@@ -8,6 +8,7 @@ mod replies;
 mod serve;
 
 pub use feed::call;
+pub use feed::call_in;
 use rules::Hub;
 
 // The hub that serving leaves, and the length of the reply at the room's front.

@@ -3,6 +3,8 @@
 // What the rounds promise is what the calls promise, one after another: specs/Rounds.antt. It stands on the calls of `hub`.
 ghost use mathlib.Core.Path.{_≡_};
 ghost use Rattle.rounds.specs.Rounds.{fedLength, finishedLength, Fed, Sent, Makes};
+use line::Mode;
+use line::Place;
 use rules::FeedAnswer;
 use rules::FinishAnswer;
 
@@ -17,18 +19,29 @@ pub extern "C" fn rounds_feed(
 ) -> usize
     ensures { λ r. ⌜ Makes (Fed (now (bytes .entry))) (now (login .entry)) rounds (now (table .entry)) (now (room .entry)) r (now (table .exit)) (now (room .exit)) ⌝ }
 {
-    let entered = hub::feed_by_value(hub::first(), table, frame::emptied(), 0, login, room);
+    let mut held = [0u8; line::LIMIT];
+    let count = 0;
+    let mode = Mode::Plain;
+    let entered = hub::feed_in(
+        hub::first(),
+        table,
+        &mut held,
+        Place { count, mode },
+        0,
+        login,
+        room,
+    );
     let mut kept = entered.hub;
-    let mut reading = entered.reading;
+    let mut place = entered.place;
     let mut len = 0;
     let mut left = rounds;
     while 0 < left {
-        let fed = hub::feed_by_value(kept, table, reading, 0, bytes, room);
+        let fed = hub::feed_in(kept, table, &mut held, place, 0, bytes, room);
         let next = fed.hub;
-        let after = fed.reading;
+        let after = fed.place;
         let answer = fed.answer;
         kept = next;
-        reading = after;
+        place = after;
         len = fed_len(answer);
         left -= 1;
     }
@@ -47,15 +60,26 @@ pub extern "C" fn rounds_finish(
 ) -> usize
     ensures { λ r. ⌜ Makes (Sent (now (bytes .entry)) session) (now (login .entry)) rounds (now (table .entry)) (now (room .entry)) r (now (table .exit)) (now (room .exit)) ⌝ }
 {
-    let entered = hub::feed_by_value(hub::first(), table, frame::emptied(), 0, login, room);
+    let mut held = [0u8; line::LIMIT];
+    let count = 0;
+    let mode = Mode::Plain;
+    let entered = hub::feed_in(
+        hub::first(),
+        table,
+        &mut held,
+        Place { count, mode },
+        0,
+        login,
+        room,
+    );
     let mut kept = entered.hub;
-    let mut reading = entered.reading;
+    let mut place = entered.place;
     let mut len = 0;
     let mut left = rounds;
     while 0 < left {
-        let sent = hub::feed_by_value(kept, table, reading, 0, bytes, room);
-        let after = sent.reading;
-        reading = after;
+        let sent = hub::feed_in(kept, table, &mut held, place, 0, bytes, room);
+        let after = sent.place;
+        place = after;
         let finished = hub::finish(sent.hub, session, room);
         let next = finished.hub;
         let answer = finished.answer;

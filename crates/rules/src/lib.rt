@@ -5,6 +5,7 @@ mod logins;
 mod refusals;
 
 use frame::FrameOutcome;
+use line::Place;
 use line::Reading;
 pub use logins::is_logged_in;
 pub use refusals::number;
@@ -76,6 +77,13 @@ pub struct FedByValue {
     pub answer: FeedAnswer,
     pub hub: Hub,
     pub reading: Reading,
+}
+
+// The same apart from the record's bytes, which lie where they were lent.
+pub struct FedAt {
+    pub answer: FeedAnswer,
+    pub hub: Hub,
+    pub place: Place,
 }
 
 // What close and feed on a lent record give back beside it.

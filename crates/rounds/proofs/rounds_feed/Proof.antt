@@ -1,6 +1,7 @@
 use mathlib.Core.Path.{_≡_, refl}
 use lib.ListN.{length}
 use borrow.Author.Needs.{needs}
+use Rattle.requests.specs.Answers.{readingAt}
 use Rattle.rounds.specs.Rounds.{Fed}
 use Rattle.rounds.proofs.Made.{Made, made-none, made-more, made-all}
 use Rattle.rounds.proofs.rounds_feed.Statement.{statement}
@@ -8,27 +9,24 @@ use Rattle.rounds.proofs.rounds_feed.Tie as tie
 
 -- So many rounds are made as are not left, from what the login left; the lent memory keeps its length.
 abbrev Inv-loop : tie.InvT-loop
-Inv-loop table₀ login bytes room₀ rounds kept₀ reading₀ len₀ left₀ table room kept reading len left =
+Inv-loop table₀ login bytes room₀ rounds held₀ count kept₀ place₀ len₀ left₀ table room held kept place len left =
     (length table ≡ length table₀) × (length room ≡ length room₀)
-    × Made (Fed bytes) rounds left (record { hub = kept₀; table = table₀; reading = reading₀; room = room₀ }) len (record { hub = kept; table = table; reading = reading; room = room })
+    × Made (Fed bytes) rounds left (record { hub = kept₀; table = table₀; reading = readingAt held₀ place₀; room = room₀ }) len (record { hub = kept; table = table; reading = readingAt held place; room = room })
 
 abbrev μ-loop : tie.MeasureT-loop
-μ-loop table₀ login bytes room₀ rounds kept₀ reading₀ len₀ left₀ table room kept reading len left = left
+μ-loop table₀ login bytes room₀ rounds held₀ count kept₀ place₀ len₀ left₀ table room held kept place len left = left
 
 first-requires : tie.Need-first-requires Inv-loop μ-loop
 first-requires c κs = search needs
 
-emptied-requires : tie.Need-emptied-requires Inv-loop μ-loop
-emptied-requires c κs = search needs
-
-feed-by-value-requires : tie.Need-feed-by-value-requires Inv-loop μ-loop
-feed-by-value-requires c κs = search needs
+feed-in-requires : tie.Need-feed-in-requires Inv-loop μ-loop
+feed-in-requires c κs = search needs
 
 loop-holds : tie.Need-loop-holds Inv-loop μ-loop
 loop-holds c = (refl, refl, made-none (Fed (c .before .before .before .before .before .before .before .before .before .before .before .before .before .before .before .args .bytes .now)) _ _)
 
-feed-by-value-requires-2 : tie.Need-feed-by-value-requires-2 Inv-loop μ-loop
-feed-by-value-requires-2 c κs = search needs
+feed-in-requires-2 : tie.Need-feed-in-requires-2 Inv-loop μ-loop
+feed-in-requires-2 c κs = search needs
 
 fed-len-requires : tie.Need-fed-len-requires Inv-loop μ-loop
 fed-len-requires c κs = search needs
@@ -40,7 +38,7 @@ loop-less : tie.Need-loop-less Inv-loop μ-loop
 loop-less c = search needs
 
 loop-again : tie.Need-loop-again Inv-loop μ-loop
-loop-again c = (search needs, search needs, made-more (Fed (c .before .before .before .before .before .before .before .before .before .before .before .before .before .before .before .before .before .before .before .before .before .before .before .before .before .before .before .args .bytes .now)) _ _ _ _ _ _ _ (c .before .before .before .before .before .before .before .before .before .before .before .loop .inv .2) (c .before .before .before .before .before .before .before .before .before .before .loop-test .taken) (record { answer = c .before .before .before .before .before .before .before .feed-by-value2 .result .answer; feeds = c .before .before .before .before .before .before .before .feed-by-value2 .ensures; length = c .fed-len .ensures }))
+loop-again c = (search needs, search needs, made-more (Fed (c .before .before .before .before .before .before .before .before .before .before .before .before .before .before .before .before .before .before .before .before .before .before .before .before .before .before .before .before .args .bytes .now)) _ _ _ _ _ _ _ (c .before .before .before .before .before .before .before .before .before .before .before .before .loop .inv .2) (c .before .before .before .before .before .before .before .before .before .before .before .loop-test .taken) (record { answer = c .before .before .before .before .before .before .before .feed-in2 .result .answer; feeds = c .before .before .before .before .before .before .before .feed-in2 .ensures; length = c .fed-len .ensures }))
 
 same-length : tie.Need-same-length Inv-loop μ-loop
 same-length c = search needs
@@ -53,7 +51,7 @@ returns c = record {
   reply = _;
   entered = _;
   last = _;
-  enters = record { answer = c .before .before .before .before .before .before .before .before .feed-by-value .result .answer; feeds = rw (c .before .before .before .before .before .before .before .before .before .before .before .before .first .ensures, c .before .before .before .before .before .before .before .before .before .before .emptied .ensures) at (c .before .before .before .before .before .before .before .before .feed-by-value .ensures); length = refl };
+  enters = record { answer = c .before .before .before .before .before .before .before .before .feed-in .result .answer; feeds = rw (c .before .before .before .before .before .before .before .before .before .before .before .before .first .ensures) at (c .before .before .before .before .before .before .before .before .feed-in .ensures); length = refl };
   rounds = made-all (Fed (c .before .before .before .before .before .before .before .before .before .before .before .before .before .before .before .before .before .args .bytes .now)) _ _ _ _ _ (c .loop-test .left) (c .before .loop .inv .2);
   table = refl;
   room = refl;
@@ -66,10 +64,9 @@ rounds-feed-spec =
     Inv-loop
     μ-loop
     first-requires
-    emptied-requires
-    feed-by-value-requires
+    feed-in-requires
     loop-holds
-    feed-by-value-requires-2
+    feed-in-requires-2
     fed-len-requires
     sub-left
     loop-less
