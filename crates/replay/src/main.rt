@@ -1,12 +1,16 @@
 // Replays a script of calls on one hub, one table and four reading records, and answers each (the format: docs/REPLAY.md).
-// It stops where the input cannot be read or the output is not taken. The input is cut at LF here, and each line is played by `transcript`.
+// It stops where the input cannot be read or the output is not taken. The input is cut at LF here, the lines are counted, and each is played
+// by `transcript`; what they answered is written before more is read. The whole: transcript/specs/World.antt: transcript.
 ghost use Prim.Native.Nat.{_+_, _≤_, _<_};
 ghost use mathlib.Core.Path.{_≡_};
 ghost use lib.ListN.{length};
 ghost use Rattle.script.specs.Script.{longest};
+ghost use Rattle.transcript.specs.World.{nextNumber};
 use libc::STDIN_FILENO;
 use libc::STDOUT_FILENO;
+use script::DATA_MOST;
 use script::LONGEST;
+use script::ROOM_MOST;
 use script::TABLE_MOST;
 use transcript::Run;
 
@@ -16,21 +20,25 @@ const HELD: usize = LONGEST + 1;
 // Room for them and for what a read gives.
 const TEXT: usize = HELD + 65536;
 
-// The output buffer is written when it has more than this: what is left holds any answer, `show` with all slots and nodes too.
-const FULL: usize = 16384;
+// The output buffer is written when it has more than this: what is left holds any answer, `table` with 200 names that are all escaped too.
+const FULL: usize = 32768;
 
-// The run, how many bytes of an open line are held, and whether the replay goes on.
+const OUT: usize = FULL + 65536;
+
+// The run, the number of the next line, how many bytes of it are held, and whether the replay goes on.
 struct Progress {
     run: Run,
+    number: u64,
     held: usize,
     going: bool,
 }
 
-fn progressed(run: Run, held: usize, going: bool) -> Progress
-    ensures { λ r. ⌜ r .held ≡ held ⌝ }
+fn progressed(run: Run, number: u64, held: usize, going: bool) -> Progress
+    ensures { λ r. ⌜ (r .held ≡ held) × (r .number ≡ number) ⌝ }
 {
     Progress {
         run: run,
+        number: number,
         held: held,
         going: going,
     }
@@ -46,10 +54,12 @@ fn least(a: usize, b: usize) -> usize
 }
 
 // The output is written where more than `most` of it is filled.
-fn flush(run: Run, out: &[u8], most: usize) -> Progress {
+fn flush(run: Run, number: u64, held: usize, out: &[u8], most: usize) -> Progress
+    ensures { λ r. ⌜ (r .held ≡ held) × (r .number ≡ number) ⌝ }
+{
     let at = run.at;
     if at <= most {
-        return progressed(run, 0, true);
+        return progressed(run, number, held, true);
     }
     let n = least(at, out.len());
     let going = io::write_all(STDOUT_FILENO, &out[0..n]);
@@ -60,7 +70,7 @@ fn flush(run: Run, out: &[u8], most: usize) -> Progress {
         readings: readings,
         at: 0,
     };
-    progressed(emptied, 0, going)
+    progressed(emptied, number, held, going)
 }
 
 // Where the line that goes on at `from` ends: at its LF, or at the end of the bytes.
@@ -92,86 +102,157 @@ fn keep(text: &mut [u8], from: usize, held: usize) -> usize
     n
 }
 
+// One line is played and counted; the output is written where more than `most` of it is filled.
+fn one(
+    run: Run,
+    number: u64,
+    line: &[u8],
+    table: &mut [u8],
+    decoded: &mut [u8; DATA_MOST],
+    room: &mut [u8; ROOM_MOST],
+    out: &mut [u8],
+    most: usize,
+) -> Progress
+    ensures { λ r. ⌜ r .number ≡ nextNumber number ⌝ }
+{
+    let played = transcript::play(run, number, line, table, decoded, room, out);
+    flush(played, transcript::next_number(number), 0, out, most)
+}
+
 // The lines of some bytes, of which the first `seen` have no LF; those behind the last LF are held.
-fn take(run: Run, bytes: &[u8], seen: usize, table: &mut [u8], out: &mut [u8]) -> Progress
+fn take(
+    run: Run,
+    first: u64,
+    bytes: &[u8],
+    seen: usize,
+    table: &mut [u8],
+    decoded: &mut [u8; DATA_MOST],
+    room: &mut [u8; ROOM_MOST],
+    out: &mut [u8],
+) -> Progress
     requires { ⌜ seen ≤ length (now bytes) ⌝ }
 {
     let mut all = run;
+    let mut number = first;
     let mut from = 0;
     let mut end = line_end(bytes, seen);
     while end < bytes.len() {
         let next = end + 1;
-        let played = flush(
-            transcript::play(all, &bytes[from..end], table, out),
+        let played = one(
+            all,
+            number,
+            &bytes[from..end],
+            table,
+            decoded,
+            room,
             out,
             FULL,
         );
         all = played.run;
+        number = played.number;
         if !played.going {
             return played;
         }
         from = next;
         end = line_end(bytes, from);
     }
-    progressed(all, end - from, true)
+    progressed(all, number, end - from, true)
 }
 
-// The text has bytes up to `end`, of which the first `seen` are those of the open line.
+// The text has bytes up to `end`, of which the first `seen` are those of the open line. What they answered is written.
 fn more(
     run: Run,
+    number: u64,
     text: &mut [u8],
     seen: usize,
     end: usize,
     table: &mut [u8],
+    decoded: &mut [u8; DATA_MOST],
+    room: &mut [u8; ROOM_MOST],
     out: &mut [u8],
 ) -> Progress
     requires { ⌜ (seen ≤ end) × (end ≤ length (now text)) ⌝ }
     ensures { λ r. ⌜ r .held ≤ longest + 1 ⌝ }
 {
-    let taken = take(run, &text[0..end], seen, table, out);
+    let taken = take(run, number, &text[0..end], seen, table, decoded, room, out);
     let open = least(taken.held, end);
     let held = keep(text, end - open, open);
     let after = taken.run;
-    progressed(after, held, taken.going)
+    if !taken.going {
+        return progressed(after, taken.number, held, false);
+    }
+    flush(after, taken.number, held, out, 0)
 }
 
-// At the end of the input, what follows the last LF is a line if it is not empty, and the rest of the output is due.
-fn last(run: Run, line: &[u8], table: &mut [u8], out: &mut [u8]) -> Progress {
+// At the end of the input, what follows the last LF is a line if it is not empty.
+fn last(
+    run: Run,
+    number: u64,
+    line: &[u8],
+    table: &mut [u8],
+    decoded: &mut [u8; DATA_MOST],
+    room: &mut [u8; ROOM_MOST],
+    out: &mut [u8],
+) -> Progress
+    ensures { λ r. ⌜ r .held ≡ 0 ⌝ }
+{
     if line.len() == 0 {
-        return flush(run, out, 0);
+        return progressed(run, number, 0, false);
     }
-    flush(transcript::play(run, line, table, out), out, 0)
+    let ended = one(run, number, line, table, decoded, room, out, 0);
+    let after = ended.run;
+    progressed(after, number, 0, false)
 }
 
 // Reads once.
-fn turn(run: Run, held: usize, text: &mut [u8], table: &mut [u8], out: &mut [u8]) -> Progress
+fn turn(
+    run: Run,
+    number: u64,
+    held: usize,
+    text: &mut [u8],
+    table: &mut [u8],
+    decoded: &mut [u8; DATA_MOST],
+    room: &mut [u8; ROOM_MOST],
+    out: &mut [u8],
+) -> Progress
     requires { ⌜ (longest < length (now text)) × (held ≤ longest + 1) ⌝ }
     ensures { λ r. ⌜ r .held ≤ longest + 1 ⌝ }
 {
     let got = libc::read(STDIN_FILENO, &mut text[held..]);
     if got < 0 {
-        return progressed(run, 0, false);
+        return progressed(run, number, 0, false);
     }
     if got == 0 {
-        let ended = last(run, &text[0..held], table, out);
-        let after = ended.run;
-        return progressed(after, 0, false);
+        return last(run, number, &text[0..held], table, decoded, room, out);
     }
     let n = io::count(got, &text[held..]);
-    more(run, text, held, held + n, table, out)
+    more(run, number, text, held, held + n, table, decoded, room, out)
 }
 
 fn main() {
     let mut table = [0u8; TABLE_MOST];
     let mut text = [0u8; TEXT];
-    let mut out = io::large_buffer();
+    let mut decoded = [0u8; DATA_MOST];
+    let mut room = [0u8; ROOM_MOST];
+    let mut out = [0u8; OUT];
     let mut run = transcript::first();
+    let mut number = 1;
     let mut held = 0;
     // Each turn reads at least a byte: no input has more.
     let mut turns: u64 = 18446744073709551615;
     while 0 < turns {
-        let next = turn(run, held, &mut text, &mut table, &mut out);
+        let next = turn(
+            run,
+            number,
+            held,
+            &mut text,
+            &mut table,
+            &mut decoded,
+            &mut room,
+            &mut out,
+        );
         run = next.run;
+        number = next.number;
         held = next.held;
         if !next.going {
             return;

@@ -1,7 +1,10 @@
 pub mod Report
+pub mod Entry
 pub mod State
 pub mod ReportVectors
 pub mod StateVectors
+pub mod EntryVectors
 pub mod ReportLaws
+pub mod EntryLaws
 pub mod Word
 pub mod SlotLaws

@@ -11,10 +11,14 @@ use Rattle.text.specs.Bytes.{bytesWord}
 abbrev pub headSize : ℕ
 headSize = 42
 
--- a line that is no call; a call that was made
-unfoldable pub badLine : List ℕ
-badLine = ascii "bad line\n"
+-- a line that no call is made of: its number, and that of its first word that cannot be taken, or that it is too long
+unfoldable pub badLine : ℕ → ℕ → List ℕ
+badLine line word = ascii "bad line " ++ decimal line ++ ascii " word " ++ decimal word ++ ascii "\n"
 
+unfoldable pub longLine : ℕ → List ℕ
+longLine line = ascii "bad line " ++ decimal line ++ ascii " too long\n"
+
+-- a call that was made
 unfoldable pub doneLine : List ℕ
 doneLine = ascii "done\n"
 

@@ -6,11 +6,15 @@ use lib.ListN.{length}
 use lib.Dec.{leb}
 use Rattle.text.specs.Text.{ascii, digit, decimalIn, decimal}
 use Rattle.text.specs.Bytes.{hexPairs, bytesWord}
-use Rattle.report.specs.Report.{badLine, doneLine, lineEnd, refusedLine, finishedLine, noneLine, frameLine, packetLine, hasOther, hasSpilled, headSize}
+use Rattle.report.specs.Report.{badLine, longLine, doneLine, lineEnd, refusedLine, finishedLine, noneLine, frameLine, packetLine, hasOther, hasSpilled, headSize}
 
-bad : badLine ≡ ascii "bad line\n"
-unfolding ascii badLine
+bad : badLine 18446744073709551615 6 ≡ ascii "bad line 18446744073709551615 word 6\n"
+unfolding ascii digit decimalIn decimal badLine
 bad = refl
+
+too-long : longLine 1 ≡ ascii "bad line 1 too long\n"
+unfolding ascii digit decimalIn decimal longLine
+too-long = refl
 
 done : doneLine ≡ ascii "done\n"
 unfolding ascii doneLine

@@ -38,7 +38,7 @@ nodesBelow (suc n) nodes = nodesBelow n nodes ++ nodeWord n (bit nodes n)
 -- an open slot: the session's number, its line and its nodes
 unfoldable pub slotLine : ℕ → ℕ → ℕ → List ℕ → List ℕ
 slotLine slot session line nodes =
-    ascii "slot " ++ decimal slot ++ ascii " " ++ hex4 session ++ ascii " " ++ decimal line ++ nodesBelow targetCount nodes ++ ascii "\n"
+    ascii "slot " ++ decimal slot ++ ascii " session " ++ hex4 session ++ ascii " line " ++ decimal line ++ ascii " nodes" ++ nodesBelow targetCount nodes ++ ascii "\n"
 
 -- a node's record
 unfoldable pub nodeLine : ℕ → List ℕ → List ℕ

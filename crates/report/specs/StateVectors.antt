@@ -24,11 +24,11 @@ login-second = refl
 abbrev marks : List ℕ
 marks = withBit (withBit (withBit (replicate markBytes 0) 7) 199) 0
 
-slot-nodes : slotLine 7 0x01A2 3 marks ≡ ascii "slot 7 01A2 3 0 7 199\n"
+slot-nodes : slotLine 7 0x01A2 3 marks ≡ ascii "slot 7 session 01A2 line 3 nodes 0 7 199\n"
 unfolding ascii digit decimalIn decimal bit withBit nodeWord nodesBelow slotLine
 slot-nodes = refl
 
-slot-none : slotLine 0 0xFFFF 1 (replicate markBytes 0) ≡ ascii "slot 0 FFFF 1\n"
+slot-none : slotLine 0 0xFFFF 1 (replicate markBytes 0) ≡ ascii "slot 0 session FFFF line 1 nodes\n"
 unfolding ascii digit decimalIn decimal bit withBit nodeWord nodesBelow slotLine
 slot-none = refl
 

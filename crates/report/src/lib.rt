@@ -1,14 +1,20 @@
-// The lines that a replay writes: what its calls answer, and the state that `show` tells, each appended to lent memory at a place.
-// A line is written whole or not at all, and is the definition's to the byte (specs/Report.antt, specs/State.antt).
+// The lines that a replay writes: what its calls answer, and what `show` and `table` tell, each appended to lent memory at a place.
+// A line is written whole or not at all, and is the definition's to the byte (specs/Report.antt, specs/State.antt, specs/Entry.antt).
 // It stands on the pieces of a line (`text`), and on `line` and `sessions` for a reading's modes and how many nodes a session may hold.
+mod bad;
 mod calls;
+mod entries;
+mod names;
 mod outcomes;
 mod replies;
 mod slots;
 mod state;
 
+pub use bad::bad_line;
+pub use bad::long_line;
 pub use calls::refused_line;
 pub use calls::spilled;
+pub use entries::entry_line;
 pub use outcomes::frame_line;
 pub use outcomes::packet_line;
 pub use replies::finished_line;
@@ -18,9 +24,7 @@ pub use state::login_line;
 pub use state::node_line;
 pub use state::reading_line;
 
-// Lines that are always the same: for a line that is no call, for a call that was made, and the last of the state.
-pub const BAD_LINE: [u8; 9] = *b"bad line\n";
-
+// Lines that are always the same: for a call that was made, and the last of the state and of the table.
 pub const DONE_LINE: [u8; 5] = *b"done\n";
 
 pub const END_LINE: [u8; 4] = *b"end\n";

@@ -14,14 +14,19 @@ use sessions::MARKS;
 use sessions::TARGETS;
 use text::GAP;
 use text::LINE_END;
-use text::NOTHING;
 
 // No line is longer.
 const SLOT_SIZE: usize = 1024;
 
 const SLOT: [u8; 5] = *b"slot ";
 
-// "slot S NNNN L N N N": an open session's slot, number, line and nodes, ascending.
+const SESSION: [u8; 9] = *b" session ";
+
+const LINE: [u8; 6] = *b" line ";
+
+const NODES: [u8; 6] = *b" nodes";
+
+// "slot S session NNNN line L nodes N N N": an open session's slot, number, line and nodes, ascending.
 pub fn slot_line(
     out: &mut [u8],
     at: usize,
@@ -43,7 +48,7 @@ fn slot_text(whole: &mut [u8], slot: u8, session: u16, line: u8, nodes: [u8; MAR
     ensures { λ r. ⌜ Built slotSize slotSize (slotLine slot session line nodes) (now (whole .exit)) r ⌝ }
 {
     let owner = slot_head(whole, slot, session);
-    let first = text::append_numbered(whole, owner, &GAP, line as u64, &NOTHING);
+    let first = text::append_numbered(whole, owner, &LINE, line as u64, &NODES);
     let last = put_nodes(whole, first, nodes);
     text::append(whole, last, &LINE_END)
 }
@@ -51,9 +56,9 @@ fn slot_text(whole: &mut [u8], slot: u8, session: u16, line: u8, nodes: [u8; MAR
 // The line up to its session's number.
 fn slot_head(whole: &mut [u8], slot: u8, session: u16) -> usize
     requires { ⌜ length (now whole) ≡ slotSize ⌝ }
-    ensures { λ r. ⌜ Built slotSize 30 (ascii "slot " ++ decimal slot ++ ascii " " ++ hex4 session) (now (whole .exit)) r ⌝ }
+    ensures { λ r. ⌜ Built slotSize 38 (ascii "slot " ++ decimal slot ++ ascii " session " ++ hex4 session) (now (whole .exit)) r ⌝ }
 {
-    let hex = text::append_numbered(whole, 0, &SLOT, slot as u64, &GAP);
+    let hex = text::append_numbered(whole, 0, &SLOT, slot as u64, &SESSION);
     text::append_hex4(whole, hex, session)
 }
 

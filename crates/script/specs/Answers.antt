@@ -1,49 +1,43 @@
--- What the answers of `parse` and `decode` mean.
-use Prim.Native.Nat.{ℕ, _+_, _≤_}
+-- What the answer of `parse` means.
+use Prim.Native.Nat.{ℕ, _≤_}
 use mathlib.Core.Path.{_≡_}
-use mathlib.Core.List.{List, []}
-use mathlib.Core.Bool.{true, cond}
-use mathlib.Core.Option.{Option, none, some, Option·getD}
-use lib.ListN.{length, take, drop}
-use lib.Dec.{leb}
+use mathlib.Core.List.{List}
+use lib.ListN.{length, take}
 use Rattle.script.specs.declared.Call as answer
-use Rattle.script.specs.declared.Call.the-variants.{Start, Enrol, Feed, Close, Finish, Show, Bad}
-use Rattle.script.specs.Script.{roomMost, tableMost, isBytes, bytes, Call, start, enrol, feed, close, finish, show}
+use Rattle.script.specs.declared.Call.the-variants.{Start, Enrol, Feed, Close, Finish, Show, Table, Remark, Bad, Long}
+use Rattle.script.specs.Script.{roomMost, tableMost, Line, remark, call, wrong, long, start, enrol, feed, close, finish, show, table}
 
--- the bytes of a word; a word that is not proper has none
-unfoldable pub decoded : List ℕ → List ℕ
-decoded w = Option·getD (bytes w) []
+-- the line that an answer tells: the bytes of its word are the first of those that were lent
+abbrev pub meaning : List ℕ → answer.Call → Line
+meaning bytes (Start len lent) = call (start (take len bytes) lent)
+meaning bytes (Enrol node kind lent) = call (enrol node kind lent)
+meaning bytes (Feed line room len lent) = call (feed line room (take len bytes) lent)
+meaning bytes (Close line) = call (close line)
+meaning bytes (Finish number room) = call (finish number room)
+meaning bytes Show = call show
+meaning bytes Table = call table
+meaning bytes Remark = remark
+meaning bytes (Bad word) = wrong word
+meaning bytes Long = long
 
--- the part of a line that starts at a place and has a length
-abbrev pub part : List ℕ → ℕ → ℕ → List ℕ
-part line at len = take len (drop at line)
-
--- the call that an answer tells: its bytes are those of the word that it points to
-abbrev pub meaning : List ℕ → answer.Call → Option Call
-meaning l (Start at len table) = some (start (decoded (part l at len)) table)
-meaning l (Enrol node kind table) = some (enrol node kind table)
-meaning l (Feed line room at len table) = some (feed line room (decoded (part l at len)) table)
-meaning l (Close line) = some (close line)
-meaning l (Finish session room) = some (finish session room)
-meaning l Show = some show
-meaning l Bad = none
-
--- the word of bytes lies within the line and is a proper one; TABLE and ROOM are no more than the buffers have
+-- the word's bytes lie within those that were lent; TABLE and ROOM are no more than the buffers have
 abbrev pub Within : List ℕ → answer.Call → Type 0
-Within l (Start at len table) = (at + len ≤ length l) × (isBytes (part l at len) ≡ true) × (table ≤ tableMost)
-Within l (Enrol node kind table) = table ≤ tableMost
-Within l (Feed line room at len table) = (at + len ≤ length l) × (isBytes (part l at len) ≡ true) × (table ≤ tableMost) × (room ≤ roomMost)
-Within l (Close line) = Unit {0}
-Within l (Finish session room) = room ≤ roomMost
-Within l Show = Unit {0}
-Within l Bad = Unit {0}
+Within bytes (Start len lent) = (len ≤ length bytes) × (lent ≤ tableMost)
+Within bytes (Enrol node kind lent) = lent ≤ tableMost
+Within bytes (Feed line room len lent) = (len ≤ length bytes) × (lent ≤ tableMost) × (room ≤ roomMost)
+Within bytes (Close line) = Unit {0}
+Within bytes (Finish number room) = room ≤ roomMost
+Within bytes Show = Unit {0}
+Within bytes Table = Unit {0}
+Within bytes Remark = Unit {0}
+Within bytes (Bad word) = Unit {0}
+Within bytes Long = Unit {0}
 
--- the promise of `parse`: the answer to a line tells the definition's call, `called`. Left to the program: at which of several parts of the line
--- with the same digits it points
-pub record Tells (l : List ℕ) (called : Option Call) (r : answer.Call) : Type 0 where
-  pub call : meaning l r ≡ called
-  pub within : Within l r
+-- the promise of `parse`: the answer tells the definition's line `l`. Left to the program: what the lent bytes are behind those of a word
+pub record Tells (l : Line) (bytes : List ℕ) (r : answer.Call) : Type 0 where
+  pub line : meaning bytes r ≡ l
+  pub within : Within bytes r
 
--- what `decode` stores into so many bytes of room: a word's bytes, whole or not at all
-unfoldable pub fitting : ℕ → List ℕ → List ℕ
-fitting room w = cond (leb (length (decoded w)) room) (decoded w) []
+-- a call without bytes, whatever was lent for them
+abbrev pub TellsAny : Line → answer.Call → Type 0
+TellsAny l r = (bytes : List ℕ) → Tells l bytes r

@@ -1,20 +1,18 @@
 -- Digits one by one: numbers, and words of bytes.
 use Prim.Native.Nat.{ℕ, zero, suc, _+_, _*_, _-_, _/_, _≤_, _<_}
-use mathlib.Core.Path.{_≡_, refl}
+use mathlib.Core.Path.{_≡_, refl, ap, _∙_}
 use mathlib.Core.List.{List, [], _∷_}
-use mathlib.Core.Bool.{Bool, true, false, cond, not, _&&_}
-use mathlib.Core.Option.{Option, none, some, Option·getD, Option·none-ne-some, Option·some-injective}
+use mathlib.Core.Bool.{Bool, true, false, cond, not, _&&_, true≢false}
+use mathlib.Core.Option.{Option, none, some, Option·none-ne-some, Option·some-injective}
 use native.Mathlib.Nat.{le-of-suc-le-suc}
 use native.Mathlib.Numerals.{add-one}
 use native.Mathlib.Omega.{arith}
 use lib.ListN.{length, getD, drop, drop-of-length-le}
 use lib.Seq.{drop-cons}
 use lib.Dec.{leb, ltb}
-use borrow.Author.Tests.{leb-true, ltb-true, le-leb, lt-leb}
-use Rattle.memory.specs.OctetsLaws.{same-lengths}
-use Rattle.text.specs.Text.{ascii}
-use Rattle.script.specs.Script.{between, digitsFrom, digitsMost, leadingZero, isPlain, number, kept, numberUpTo, hexValue, allHex, isEven, isBytes, pairs, bytes}
-use Rattle.script.specs.Answers.{decoded, fitting}
+use borrow.Author.Tests.{leb-true, ltb-true, eq-eqb, ne-eqb}
+use Rattle.script.specs.Script.{between, digitsFrom, digitsMost, leadingZero, isPlain, number, kept, numberUpTo, hexValue, allHex, pairs, hexFrom, session}
+use Rattle.script.specs.Code.{pairOf}
 
 -- ---- decimal digits
 
@@ -64,40 +62,60 @@ upTo-most most w n e = go (number w) e
 
 -- ---- hexadecimal digits
 
-pub hex-on : (w : List ℕ) (i : ℕ) → i < length w → ltb (hexValue (getD w i 0)) 16 ≡ true → allHex (drop i w) ≡ allHex (drop (i + 1) w)
-unfolding allHex
-hex-on w i h e = rw (drop-cons w i 0 h, e, add-one)
+-- both are digits
+both-are : (x : ℕ) (t u b : Bool) → cond (t && u) x 256 < 256 → (t && (u && b)) ≡ b
+both-are x true true b k = refl
+both-are x true false b k = absurd (omega arith)
+both-are x false u b k = absurd (omega arith)
 
-pub hex-not : (w : List ℕ) (i : ℕ) → i < length w → ltb (hexValue (getD w i 0)) 16 ≡ false → allHex (drop i w) ≡ false
+-- a pair of digits on
+pub pair-on : (w : List ℕ) (i : ℕ) → 2 * i + 1 < length w → pairOf (getD w (2 * i) 0) (getD w (2 * i + 1) 0) < 256
+    → allHex (drop (2 * i) w) ≡ allHex (drop (2 * (i + 1)) w)
+unfolding allHex pairOf
+pair-on w i h k =
+    let two : 2 * (i + 1) ≡ suc (suc (2 * i)) = omega arith in
+    let one : 2 * i + 1 ≡ suc (2 * i) = omega arith in
+    rw (drop-cons w (2 * i) 0 (omega arith), drop-cons w (suc (2 * i)) 0 (omega arith), two)
+    (both-are (hexValue (getD w (2 * i) 0) * 16 + hexValue (getD w (suc (2 * i)) 0)) (ltb (hexValue (getD w (2 * i) 0)) 16) (ltb (hexValue (getD w (suc (2 * i)) 0)) 16) (allHex (drop (suc (suc (2 * i))) w)) (rw one at k))
+
+-- the byte of two digits, where both are
+pub pair-byte : (h l : ℕ) → pairOf h l < 256 → pairOf h l ≡ hexValue h * 16 + hexValue l
+unfolding pairOf
+pair-byte h l = go (ltb (hexValue h) 16) (ltb (hexValue l) 16)
+  where
+    go : (t u : Bool) → cond (t && u) (hexValue h * 16 + hexValue l) 256 < 256 → cond (t && u) (hexValue h * 16 + hexValue l) 256 ≡ hexValue h * 16 + hexValue l
+    go true true h = refl
+    go true false h = absurd (omega arith)
+    go false u h = absurd (omega arith)
+
+-- a byte that is no digit
+both-not : (h l : ℕ) (t u : Bool) → ltb (hexValue h) 16 ≡ t → ltb (hexValue l) 16 ≡ u → 255 < cond (t && u) (hexValue h * 16 + hexValue l) 256 → (t && u) ≡ false
+both-not h l true true p q k = absurd (omega (arith, ltb-true (hexValue h) 16 p, ltb-true (hexValue l) 16 q))
+both-not h l true false p q k = refl
+both-not h l false u p q k = refl
+
+one-is-not : (t u b : Bool) → (t && u) ≡ false → (t && (u && b)) ≡ false
+one-is-not true true b e = absurd (true≢false e)
+one-is-not true false b e = refl
+one-is-not false u b e = refl
+
+no-pair : (h l : ℕ) → 255 < pairOf h l → (ltb (hexValue h) 16 && ltb (hexValue l) 16) ≡ false
+unfolding pairOf
+no-pair h l k = both-not h l (ltb (hexValue h) 16) (ltb (hexValue l) 16) refl refl k
+
+pub pair-not : (w : List ℕ) (i : ℕ) → 2 * i + 1 < length w → 255 < pairOf (getD w (2 * i) 0) (getD w (2 * i + 1) 0) → allHex (drop (2 * i) w) ≡ false
 unfolding allHex
-hex-not w i h e = rw (drop-cons w i 0 h, e)
+pair-not w i h k =
+    let one : 2 * i + 1 ≡ suc (2 * i) = omega arith in
+    rw (drop-cons w (2 * i) 0 (omega arith), drop-cons w (suc (2 * i)) 0 (omega arith))
+    (one-is-not (ltb (hexValue (getD w (2 * i) 0)) 16) (ltb (hexValue (getD w (suc (2 * i)) 0)) 16) (allHex (drop (suc (suc (2 * i))) w))
+    (no-pair (getD w (2 * i) 0) (getD w (suc (2 * i)) 0) (rw one at k)))
 
 pub hex-end : (w : List ℕ) (i : ℕ) → length w ≤ i → allHex (drop i w) ≡ true
 unfolding allHex
 hex-end w i h = rw (drop-of-length-le w h)
 
-hex-at : (w : List ℕ) (i : ℕ) → allHex w ≡ true → i < length w → hexValue (getD w i 0) < 16
-unfolding allHex
-hex-at [] i e h = absurd (omega arith)
-hex-at (b ∷ bs) i e h = go i (ltb (hexValue b) 16) refl e h (hex-at bs)
-  where
-    go : (i : ℕ) (t : Bool) → ltb (hexValue b) 16 ≡ t → (t && allHex bs) ≡ true → i < suc (length bs)
-        → ((j : ℕ) → allHex bs ≡ true → j < length bs → hexValue (getD bs j 0) < 16) → hexValue (getD (b ∷ bs) i 0) < 16
-    go zero true p e h ih = ltb-true (hexValue b) 16 p
-    go (suc j) true p e h ih = ih j e (le-of-suc-le-suc h)
-    go i false p e h ih = let z : _≡_ {A = ℕ} 0 1 = cc in absurd (omega arith)
-
 -- ---- words of bytes
-
--- in a proper word of two bytes or more each is a digit
-pub bytes-hex : (w : List ℕ) (i : ℕ) → isBytes w ≡ true → 2 ≤ length w → i < length w → hexValue (getD w i 0) < 16
-unfolding isBytes ascii
-bytes-hex w i e two h = hex-at w i (go (ltb 0 (length w)) (isEven (length w)) (rw (same-lengths w (45 ∷ []) (λ x. omega arith)) at e)) h
-  where
-    go : (t u : Bool) → (t && u && allHex w) ≡ true → allHex w ≡ true
-    go true true e = e
-    go true false e = let z : _≡_ {A = ℕ} 0 1 = cc in absurd (omega arith)
-    go false u e = let z : _≡_ {A = ℕ} 0 1 = cc in absurd (omega arith)
 
 pub length-pairs : (w : List ℕ) → length (pairs w) ≡ length w / 2
 unfolding pairs
@@ -115,47 +133,39 @@ pairs-at (a ∷ b ∷ bs) (suc i) h =
     let f : suc (suc (2 * i)) + 1 ≡ suc (suc (2 * i + 1)) = omega arith in
     rw (e, f) (pairs-at bs i (omega arith))
 
-pub bytes-is : (w : List ℕ) → isBytes w ≡ true → bytes w ≡ some (decoded w)
-unfolding bytes decoded
-bytes-is w e = rw e
+-- ---- sessions
 
-pub bytes-not : (w : List ℕ) → isBytes w ≡ false → bytes w ≡ none
-unfolding bytes
-bytes-not w e = rw e
+-- of four bytes the two pairs decide
+abbrev pub left : List ℕ → ℕ
+left w = pairOf (getD w 0 0) (getD w 1 0)
 
--- ---- how many bytes a word has: no more than half of its length
+abbrev pub right : List ℕ → ℕ
+right w = pairOf (getD w 2 0) (getD w 3 0)
 
-pub decoded-proper : (w : List ℕ) → isBytes w ≡ true → decoded w ≡ pairs w
-unfolding decoded bytes
-decoded-proper w e = rw e
+-- the number of four digits, by its two pairs
+hex-four : (w : List ℕ) → length w ≡ 4 → left w < 256 → right w < 256 → hexFrom 0 w ≡ left w * 256 + right w
+unfolding hexFrom
+hex-four [] n h k = absurd (omega arith)
+hex-four (a ∷ []) n h k = absurd (omega arith)
+hex-four (a ∷ b ∷ []) n h k = absurd (omega arith)
+hex-four (a ∷ b ∷ c ∷ []) n h k = absurd (omega arith)
+hex-four (a ∷ b ∷ c ∷ d ∷ []) n h k = omega (arith, pair-byte a b h, pair-byte c d k)
+hex-four (a ∷ b ∷ c ∷ d ∷ e ∷ w) n h k = absurd (omega arith)
 
-pub decoded-not : (w : List ℕ) → isBytes w ≡ false → decoded w ≡ []
-unfolding decoded bytes
-decoded-not w e = rw e
+pub session-is : (w : List ℕ) → length w ≡ 4 → left w < 256 → right w < 256 → session w ≡ some (left w * 256 + right w)
+unfolding session
+session-is w n h k =
+    let all : allHex w ≡ true = pair-on w 0 (omega arith) h ∙ pair-on w 1 (omega arith) k ∙ hex-end w 4 (omega arith) in
+    rw (eq-eqb (length w) 4 n, all) (ap some (hex-four w n h k))
 
-pub length-decoded : (w : List ℕ) → length (decoded w) ≤ length w / 2
-unfolding decoded bytes
-length-decoded w = go (isBytes w)
-  where
-    go : (t : Bool) → length (Option·getD (cond t (some (pairs w)) none) []) ≤ length w / 2
-    go true = omega (arith, length-pairs w)
-    go false = omega arith
+pub session-length : (w : List ℕ) → (length w ≡ 4 → ⊥) → session w ≡ none
+unfolding session
+session-length w h = rw (ne-eqb (length w) 4 h)
 
--- ---- what is stored
+pub session-left : (w : List ℕ) → length w ≡ 4 → 255 < left w → session w ≡ none
+unfolding session
+session-left w n h = rw (eq-eqb (length w) 4 n, pair-not w 0 (omega arith) h)
 
-pub fitting-not : (room : ℕ) (w : List ℕ) → isBytes w ≡ false → fitting room w ≡ []
-unfolding fitting
-fitting-not room w e = rw (decoded-not w e, le-leb 0 room (omega arith))
-
-pub fitting-short : (room : ℕ) (w : List ℕ) → isBytes w ≡ true → room < length w / 2 → fitting room w ≡ []
-unfolding fitting
-fitting-short room w e h = rw (decoded-proper w e, lt-leb (length (pairs w)) room (omega (arith, length-pairs w)))
-
-pub fitting-whole : (room : ℕ) (w : List ℕ) → isBytes w ≡ true → length w / 2 ≤ room → fitting room w ≡ pairs w
-unfolding fitting
-fitting-whole room w e h = rw (decoded-proper w e, le-leb (length (pairs w)) room (omega (arith, length-pairs w)))
-
--- in room for half of the word's length all its bytes are
-pub fitting-room : (room : ℕ) (w : List ℕ) → length w / 2 ≤ room → fitting room w ≡ decoded w
-unfolding fitting
-fitting-room room w h = rw (le-leb (length (decoded w)) room (omega (arith, length-decoded w)))
+pub session-right : (w : List ℕ) → length w ≡ 4 → left w < 256 → 255 < right w → session w ≡ none
+unfolding session
+session-right w n h k = rw (eq-eqb (length w) 4 n, pair-on w 0 (omega arith) h ∙ pair-not w 1 (omega arith) k)

@@ -1,111 +1,68 @@
--- Each call by its words, taken one by one.
+-- A line by its length, its first byte and its call word.
 use Prim.Native.Nat.{ℕ, _+_, _-_, _≤_, _<_}
 use mathlib.Core.Path.{_≡_, refl, sym, ap, _∙_}
 use mathlib.Core.List.{List, [], _∷_}
-use mathlib.Core.Option.{Option, none, some, Option·none-ne-some, Option·some-injective}
+use mathlib.Core.Bool.{true, false}
+use mathlib.Core.Option.{some, Option·some-injective}
 use native.Mathlib.Omega.{arith}
-use lib.ListN.{length, take, drop}
+use lib.ListN.{length, take, getD}
+use lib.Dec.{eqb}
 use borrow.Author.Tests.{le-leb, lt-leb}
-use Rattle.memory.specs.Octets.{same}
-use Rattle.text.specs.Text.{ascii}
-use Rattle.script.specs.Script.{longest, byteMost, pairMost, roomMost, tableMost, tableRight, words, isPlain, number, numberUpTo, isBytes, bytes, starts, enrols, feeds, closes, finishes, tableOf, startOf, enrolOf, feedOf, closeOf, finishOf, called, callOf, parse}
-use Rattle.script.specs.Code.{wordEnd, wordsFrom, first, rest, lastNumber}
-use Rattle.script.specs.WordLaws.{from-within, from-first, from-cut}
+use Rattle.script.specs.Script.{longest, tableMost, tableRight, words, first, tableOf, numberUpTo, remark, long, called, callOf, hash, isRemark, parse}
+use Rattle.script.specs.declared.Taken.{Taken}
+use Rattle.script.specs.declared.Taken.the-variants as taken
+use Rattle.script.specs.Code.{wordEnd, wordsFrom, Numbered, TableAt}
+use Rattle.script.specs.WordLaws.{from-behind, from-within, from-cut}
 use Rattle.script.specs.ByteLaws.{upTo-most}
 
--- ---- a missing part
+-- ---- [TABLE]
 
-feeds-bytes : (l r t : Option ℕ) → feeds l r none t ≡ none
-feeds-bytes none r t = refl
-feeds-bytes (some x) none t = refl
-feeds-bytes (some x) (some y) t = refl
-
-feeds-room : (l : Option ℕ) (b : Option (List ℕ)) (t : Option ℕ) → feeds l none b t ≡ none
-feeds-room none b t = refl
-feeds-room (some x) b t = refl
-
-enrols-kind : (n t : Option ℕ) → enrols n none t ≡ none
-enrols-kind none t = refl
-enrols-kind (some x) t = refl
-
-finishes-room : (s : Option ℕ) → finishes s none ≡ none
-finishes-room none = refl
-finishes-room (some x) = refl
-
--- ---- the parts of each call
-
-pub start-parts : (ws : List (List ℕ)) → startOf ws ≡ starts (bytes (first ws)) (tableOf (rest ws))
-unfolding startOf bytes isBytes same ascii
-start-parts [] = refl
-start-parts (b ∷ ws) = refl
-
-pub enrol-parts : (ws : List (List ℕ)) → enrolOf ws ≡ enrols (numberUpTo byteMost (first ws)) (numberUpTo pairMost (first (rest ws))) (tableOf (rest (rest ws)))
-unfolding enrolOf numberUpTo number isPlain
-enrol-parts [] = refl
-enrol-parts (node ∷ []) = sym (enrols-kind (numberUpTo byteMost node) (tableOf []))
-enrol-parts (node ∷ kind ∷ ws) = refl
-
-pub feed-parts : (ws : List (List ℕ))
-    → feedOf ws ≡ feeds (numberUpTo byteMost (first ws)) (numberUpTo roomMost (first (rest ws))) (bytes (first (rest (rest ws)))) (tableOf (rest (rest (rest ws))))
-unfolding feedOf numberUpTo number isPlain bytes isBytes same ascii
-feed-parts [] = refl
-feed-parts (line ∷ []) = sym (feeds-room (numberUpTo byteMost line) (bytes []) (tableOf []))
-feed-parts (line ∷ room ∷ []) = sym (feeds-bytes (numberUpTo byteMost line) (numberUpTo roomMost room) (tableOf []))
-feed-parts (line ∷ room ∷ b ∷ ws) = refl
-
-pub close-parts : (ws : List (List ℕ)) → closeOf ws ≡ closes (lastNumber byteMost ws)
-unfolding closeOf
-close-parts [] = refl
-close-parts (line ∷ []) = refl
-close-parts (line ∷ w ∷ ws) = refl
-
-pub finish-parts : (ws : List (List ℕ)) → finishOf ws ≡ finishes (numberUpTo pairMost (first ws)) (lastNumber roomMost (rest ws))
-unfolding finishOf numberUpTo number isPlain
-finish-parts [] = refl
-finish-parts (session ∷ []) = sym (finishes-room (numberUpTo pairMost session))
-finish-parts (session ∷ room ∷ []) = refl
-finish-parts (session ∷ room ∷ w ∷ ws) = sym (finishes-room (numberUpTo pairMost session))
-
--- ---- the words of a line
-
-table-words : (w : List ℕ) (ws : List (List ℕ)) → tableOf (w ∷ ws) ≡ lastNumber tableMost (w ∷ ws)
+pub table-none : (l : List ℕ) (i : ℕ) → length l < i → tableOf (wordsFrom l i) ≡ some tableRight
 unfolding tableOf
-table-words w [] = refl
-table-words w (v ∷ ws) = refl
+table-none l i h = rw (from-behind l i h)
 
-pub table-last : (l : List ℕ) (i : ℕ) → i ≤ length l → tableOf (wordsFrom l i) ≡ lastNumber tableMost (wordsFrom l i)
-table-last l i h = rw (from-cut l i h) (table-words _ _)
+pub table-word : (l : List ℕ) (i : ℕ) → i ≤ length l → tableOf (wordsFrom l i) ≡ numberUpTo tableMost (first (wordsFrom l i))
+unfolding tableOf
+table-word l i h = rw (from-cut l i h)
 
--- the part of the line up to the word's end is that word
-pub word-part : (l : List ℕ) (i e : ℕ) → i ≤ length l → e ≡ wordEnd l i → take (e - i) (drop i l) ≡ first (wordsFrom l i)
-word-part l i e h p = rw (p, from-first l i h)
-
--- ---- numbers are in their ranges
-
-pub last-most : (most : ℕ) (ws : List (List ℕ)) (n : ℕ) → lastNumber most ws ≡ some n → n ≤ most
-last-most most [] n e = absurd (Option·none-ne-some n e)
-last-most most (w ∷ []) n e = upTo-most most w n e
-last-most most (w ∷ v ∷ ws) n e = absurd (Option·none-ne-some n e)
+-- the number of the word is that of [TABLE]
+pub table-numbered : (l : List ℕ) (i : ℕ) (r : Taken) → i ≤ length l → Numbered l i tableMost r → TableAt l i r
+table-numbered l i (taken.Word value next) h n = (table-word l i h ∙ n .0, n .1)
+table-numbered l i taken.Nothing h n = table-word l i h ∙ n
 
 pub table-most : (ws : List (List ℕ)) (n : ℕ) → tableOf ws ≡ some n → n ≤ tableMost
 unfolding tableOf
 table-most [] n e = let same-number = Option·some-injective tableRight n e in omega arith
-table-most (w ∷ []) n e = upTo-most tableMost w n e
-table-most (w ∷ v ∷ ws) n e = absurd (Option·none-ne-some n e)
+table-most (w ∷ ws) n e = upTo-most tableMost w n e
+
+-- ---- remarks
+
+pub remark-empty : (l : List ℕ) → length l ≡ 0 → isRemark l ≡ true
+unfolding isRemark
+remark-empty [] e = refl
+remark-empty (b ∷ l) e = absurd (omega arith)
+
+pub remark-first : (l : List ℕ) → 0 < length l → isRemark l ≡ eqb (getD l 0 0) hash
+unfolding isRemark
+remark-first [] h = absurd (omega arith)
+remark-first (b ∷ l) h = refl
 
 -- ---- the whole line
 
-pub parse-long : (l : List ℕ) → longest < length l → parse l ≡ none
+pub parse-long : (l : List ℕ) → longest < length l → parse l ≡ long
 unfolding parse
 parse-long l h = rw (lt-leb (length l) longest h)
 
-pub parse-words : (l : List ℕ) → length l ≤ longest → parse l ≡ callOf (words l)
+pub parse-remark : (l : List ℕ) → length l ≤ longest → isRemark l ≡ true → parse l ≡ remark
 unfolding parse
-parse-words l h = rw (le-leb (length l) longest h)
+parse-remark l h e = rw (le-leb (length l) longest h, e)
+
+parse-words : (l : List ℕ) → length l ≤ longest → isRemark l ≡ false → parse l ≡ callOf (words l)
+unfolding parse
+parse-words l h e = rw (le-leb (length l) longest h, e)
 
 -- the call word, and the words behind it
-pub parse-word : (l : List ℕ) → length l ≤ longest → parse l ≡ called (take (wordEnd l 0) l) (wordsFrom l (wordEnd l 0 + 1))
-unfolding callOf
-parse-word l h =
+pub parse-word : (l : List ℕ) → length l ≤ longest → isRemark l ≡ false → parse l ≡ called (take (wordEnd l 0) l) (wordsFrom l (wordEnd l 0 + 1))
+parse-word l h e =
     let whole : wordEnd l 0 - 0 ≡ wordEnd l 0 = omega arith in
-    parse-words l h ∙ ap callOf (sym (from-within l 0 (omega arith)) ∙ from-cut l 0 (omega arith)) ∙ rw whole
+    parse-words l h e ∙ ap callOf (sym (from-within l 0 (omega arith)) ∙ from-cut l 0 (omega arith)) ∙ rw whole

@@ -1,7 +1,7 @@
--- A line of the script and the call that it stands for. A line is the bytes between two LFs, and `none` is a bad line.
+-- A line of the script (docs/REPLAY.md), the bytes between two LFs: a remark, a call, or the number of its first word that cannot be taken.
 use Prim.Native.Nat.{ℕ, _+_, _*_, _-_, _%_}
 use mathlib.Core.List.{List, [], _∷_}
-use mathlib.Core.Bool.{Bool, true, cond, not, _&&_, _||_}
+use mathlib.Core.Bool.{Bool, true, false, cond, not, _&&_, _||_}
 use mathlib.Core.Option.{Option, none, some}
 use lib.ListN.{length, getD}
 use lib.Dec.{leb, ltb, eqb}
@@ -23,15 +23,19 @@ abbrev pub tableRight : ℕ
 tableRight = tableSize
 
 abbrev pub roomMost : ℕ
-roomMost = 1024
+roomMost = 8192
 
 -- LINE and NODE
 abbrev pub byteMost : ℕ
 byteMost = 255
 
--- TYPE and SESSION
+-- TYPE
 abbrev pub pairMost : ℕ
 pairMost = 65535
+
+-- no line has more bytes in hexadecimal digits
+abbrev pub dataMost : ℕ
+dataMost = 20000
 
 -- no number has more digits
 abbrev pub digitsMost : ℕ
@@ -47,10 +51,24 @@ abbrev pub before : ℕ → List (List ℕ) → List (List ℕ)
 before b [] = (b ∷ []) ∷ []
 before b (w ∷ ws) = (b ∷ w) ∷ ws
 
--- a line is cut at each space: a leading, a trailing or a doubled one gives an empty word, which no word may be
+-- a line is cut at each space: a leading, a trailing or a doubled one gives an empty word, which is of no kind
 unfoldable pub words : List ℕ → List (List ℕ)
 words [] = [] ∷ []
 words (b ∷ bs) = cond (eqb b space) ([] ∷ words bs) (before b (words bs))
+
+-- the first word of some; a missing one is as an empty one
+abbrev pub first : List (List ℕ) → List ℕ
+first [] = []
+first (w ∷ ws) = w
+
+abbrev pub rest : List (List ℕ) → List (List ℕ)
+rest [] = []
+rest (w ∷ ws) = ws
+
+-- no word is left
+abbrev pub ended : List (List ℕ) → Bool
+ended [] = true
+ended (w ∷ ws) = false
 
 abbrev pub between : ℕ → ℕ → ℕ → Bool
 between low high b = leb low b && leb b high
@@ -111,6 +129,17 @@ pairs (h ∷ l ∷ bs) = (hexValue h * 16 + hexValue l) ∷ pairs bs
 unfoldable pub bytes : List ℕ → Option (List ℕ)
 bytes w = cond (isBytes w) (some (pairs w)) none
 
+-- ---- sessions
+
+-- the number of hexadecimal digits behind others of the value v
+unfoldable pub hexFrom : ℕ → List ℕ → ℕ
+hexFrom v [] = v
+hexFrom v (d ∷ ds) = hexFrom (v * 16 + hexValue d) ds
+
+-- exactly four digits
+unfoldable pub session : List ℕ → Option ℕ
+session w = cond (eqb (length w) 4 && allHex w) (some (hexFrom 0 w)) none
+
 -- ---- calls
 
 pub data Call : Type 0 where
@@ -120,90 +149,103 @@ pub data Call : Type 0 where
   close : ℕ → Call
   finish : ℕ → ℕ → Call
   show : Call
+  table : Call
 
--- [TABLE], the last word
+-- what a line is: no call, a call, one that has `wrong` as its first word that cannot be taken, or one of too many bytes
+pub data Line : Type 0 where
+  remark : Line
+  call : Call → Line
+  wrong : ℕ → Line
+  long : Line
+
+-- [TABLE]: without the word, the right length
 unfoldable pub tableOf : List (List ℕ) → Option ℕ
 tableOf [] = some tableRight
-tableOf (table ∷ []) = numberUpTo tableMost table
-tableOf (table ∷ w ∷ ws) = none
+tableOf (w ∷ ws) = numberUpTo tableMost w
 
--- each call, if there is each of its parts
-abbrev pub starts : Option (List ℕ) → Option ℕ → Option Call
-starts none t = none
-starts (some bs) none = none
-starts (some bs) (some t) = some (start bs t)
+-- the words of each call, left to right: what each is taken for, if it can be, and whether none is left
+abbrev pub starts : Option (List ℕ) → Option ℕ → Bool → Line
+starts none t e = wrong 2
+starts (some bs) none e = wrong 3
+starts (some bs) (some t) false = wrong 4
+starts (some bs) (some t) true = call (start bs t)
 
-abbrev pub enrols : Option ℕ → Option ℕ → Option ℕ → Option Call
-enrols none k t = none
-enrols (some n) none t = none
-enrols (some n) (some k) none = none
-enrols (some n) (some k) (some t) = some (enrol n k t)
+abbrev pub enrols : Option ℕ → Option ℕ → Option ℕ → Bool → Line
+enrols none k t e = wrong 2
+enrols (some n) none t e = wrong 3
+enrols (some n) (some k) none e = wrong 4
+enrols (some n) (some k) (some t) false = wrong 5
+enrols (some n) (some k) (some t) true = call (enrol n k t)
 
-abbrev pub feeds : Option ℕ → Option ℕ → Option (List ℕ) → Option ℕ → Option Call
-feeds none r b t = none
-feeds (some l) none b t = none
-feeds (some l) (some r) none t = none
-feeds (some l) (some r) (some bs) none = none
-feeds (some l) (some r) (some bs) (some t) = some (feed l r bs t)
+abbrev pub feeds : Option ℕ → Option ℕ → Option (List ℕ) → Option ℕ → Bool → Line
+feeds none r b t e = wrong 2
+feeds (some l) none b t e = wrong 3
+feeds (some l) (some r) none t e = wrong 4
+feeds (some l) (some r) (some bs) none e = wrong 5
+feeds (some l) (some r) (some bs) (some t) false = wrong 6
+feeds (some l) (some r) (some bs) (some t) true = call (feed l r bs t)
 
-abbrev pub closes : Option ℕ → Option Call
-closes none = none
-closes (some l) = some (close l)
+abbrev pub closes : Option ℕ → Bool → Line
+closes none e = wrong 2
+closes (some l) false = wrong 3
+closes (some l) true = call (close l)
 
-abbrev pub finishes : Option ℕ → Option ℕ → Option Call
-finishes none r = none
-finishes (some s) none = none
-finishes (some s) (some r) = some (finish s r)
+abbrev pub finishes : Option ℕ → Option ℕ → Bool → Line
+finishes none r e = wrong 2
+finishes (some s) none e = wrong 3
+finishes (some s) (some r) false = wrong 4
+finishes (some s) (some r) true = call (finish s r)
+
+abbrev pub alone : Call → Bool → Line
+alone c false = wrong 2
+alone c true = call c
 
 -- start BYTES [TABLE]
-unfoldable pub startOf : List (List ℕ) → Option Call
-startOf [] = none
-startOf (b ∷ table) = starts (bytes b) (tableOf table)
+unfoldable pub startOf : List (List ℕ) → Line
+startOf ws = starts (bytes (first ws)) (tableOf (rest ws)) (ended (rest (rest ws)))
 
 -- enrol NODE TYPE [TABLE]
-unfoldable pub enrolOf : List (List ℕ) → Option Call
-enrolOf [] = none
-enrolOf (node ∷ []) = none
-enrolOf (node ∷ kind ∷ table) = enrols (numberUpTo byteMost node) (numberUpTo pairMost kind) (tableOf table)
+unfoldable pub enrolOf : List (List ℕ) → Line
+enrolOf ws = enrols (numberUpTo byteMost (first ws)) (numberUpTo pairMost (first (rest ws))) (tableOf (rest (rest ws))) (ended (rest (rest (rest ws))))
 
 -- feed LINE ROOM BYTES [TABLE]
-unfoldable pub feedOf : List (List ℕ) → Option Call
-feedOf [] = none
-feedOf (line ∷ []) = none
-feedOf (line ∷ room ∷ []) = none
-feedOf (line ∷ room ∷ b ∷ table) = feeds (numberUpTo byteMost line) (numberUpTo roomMost room) (bytes b) (tableOf table)
+unfoldable pub feedOf : List (List ℕ) → Line
+feedOf ws =
+    feeds (numberUpTo byteMost (first ws)) (numberUpTo roomMost (first (rest ws))) (bytes (first (rest (rest ws)))) (tableOf (rest (rest (rest ws))))
+    (ended (rest (rest (rest (rest ws)))))
 
 -- close LINE
-unfoldable pub closeOf : List (List ℕ) → Option Call
-closeOf [] = none
-closeOf (line ∷ []) = closes (numberUpTo byteMost line)
-closeOf (line ∷ w ∷ ws) = none
+unfoldable pub closeOf : List (List ℕ) → Line
+closeOf ws = closes (numberUpTo byteMost (first ws)) (ended (rest ws))
 
 -- finish SESSION ROOM
-unfoldable pub finishOf : List (List ℕ) → Option Call
-finishOf [] = none
-finishOf (session ∷ []) = none
-finishOf (session ∷ room ∷ []) = finishes (numberUpTo pairMost session) (numberUpTo roomMost room)
-finishOf (session ∷ room ∷ w ∷ ws) = none
+unfoldable pub finishOf : List (List ℕ) → Line
+finishOf ws = finishes (session (first ws)) (numberUpTo roomMost (first (rest ws))) (ended (rest (rest ws)))
 
--- show
-unfoldable pub showOf : List (List ℕ) → Option Call
-showOf [] = some show
-showOf (w ∷ ws) = none
-
--- the call word, and the words behind it
-unfoldable pub called : List ℕ → List (List ℕ) → Option Call
+-- the call word, and the words behind it; show and table have none
+unfoldable pub called : List ℕ → List (List ℕ) → Line
 called w ws =
     cond (same w (ascii "start")) (startOf ws)
     (cond (same w (ascii "enrol")) (enrolOf ws)
     (cond (same w (ascii "feed")) (feedOf ws)
     (cond (same w (ascii "close")) (closeOf ws)
     (cond (same w (ascii "finish")) (finishOf ws)
-    (cond (same w (ascii "show")) (showOf ws) none)))))
+    (cond (same w (ascii "show")) (alone show (ended ws))
+    (cond (same w (ascii "table")) (alone table (ended ws)) (wrong 1)))))))
 
-unfoldable pub callOf : List (List ℕ) → Option Call
-callOf [] = none
-callOf (w ∷ ws) = called w ws
+abbrev pub callOf : List (List ℕ) → Line
+callOf ws = called (first ws) (rest ws)
 
-unfoldable pub parse : List ℕ → Option Call
-parse line = cond (leb (length line) longest) (callOf (words line)) none
+-- ---- lines
+
+abbrev pub hash : ℕ
+hash = 35
+
+-- empty, or with `#` as its first byte
+unfoldable pub isRemark : List ℕ → Bool
+isRemark [] = true
+isRemark (b ∷ bs) = eqb b hash
+
+-- a line that is too long is no remark either
+unfoldable pub parse : List ℕ → Line
+parse line = cond (leb (length line) longest) (cond (isRemark line) remark (callOf (words line))) long

@@ -3,7 +3,6 @@ use Prim.Native.Nat.{ℕ, suc, _+_, _-_, _≤_, _<_}
 use mathlib.Core.Path.{_≡_, refl, sym, ap, _∙_}
 use mathlib.Core.List.{List, [], _∷_}
 use mathlib.Core.Bool.{Bool, true, false, cond}
-use mathlib.Core.Option.{none}
 use native.Mathlib.Nat.{add-zero}
 use native.Mathlib.Numerals.{add-one}
 use native.Mathlib.Omega.{arith}
@@ -11,8 +10,8 @@ use lib.ListN.{length, length-drop, getD, take, drop, drop-of-length-le}
 use lib.Seq.{drop-cons, drop-drop}
 use lib.Dec.{leb, eqb}
 use borrow.Author.Tests.{leb-true, leb-false, le-leb, lt-leb}
-use Rattle.script.specs.Script.{space, before, words, numberUpTo}
-use Rattle.script.specs.Code.{wordLength, wordEnd, wordsFrom, first, rest, lastNumber}
+use Rattle.script.specs.Script.{space, before, words, first, rest, ended}
+use Rattle.script.specs.Code.{wordLength, wordEnd, wordsFrom}
 
 -- ---- the first word
 
@@ -116,13 +115,13 @@ from-rest l i = go (leb i (length l)) refl
         let past = leb-false i (length l) e in
         ap rest (from-behind l i past) ∙ sym (from-behind l (wordEnd l i + 1) (omega arith))
 
--- a word that ends with the line is the last; behind another one stands a word more
-pub from-last : (l : List ℕ) (i : ℕ) → i ≤ length l → length l ≤ wordEnd l i → wordsFrom l i ≡ take (wordEnd l i - i) (drop i l) ∷ []
-from-last l i h e = from-cut l i h ∙ rw (from-behind l (wordEnd l i + 1) (omega arith))
+-- none is left behind the line's end
+pub ended-is : (l : List ℕ) (i : ℕ) → length l < i → ended (wordsFrom l i) ≡ true
+ended-is l i h = ap ended (from-behind l i h)
 
-pub last-not : (most : ℕ) (l : List ℕ) (i : ℕ) → i ≤ length l → wordEnd l i < length l → lastNumber most (wordsFrom l i) ≡ none
-last-not most l i h e =
-    rw (from-cut l i h, from-cut l (wordEnd l i + 1) (omega arith))
+pub ended-not : (l : List ℕ) (i : ℕ) → i ≤ length l → ended (wordsFrom l i) ≡ false
+ended-not l i h = ap ended (from-cut l i h)
 
-pub last-is : (most : ℕ) (l : List ℕ) (i : ℕ) → i ≤ length l → length l ≤ wordEnd l i → lastNumber most (wordsFrom l i) ≡ numberUpTo most (take (wordEnd l i - i) (drop i l))
-last-is most l i h e = ap (lastNumber most) (from-last l i h e)
+-- the part of the line up to the word's end is that word
+pub word-part : (l : List ℕ) (i e : ℕ) → i ≤ length l → e ≡ wordEnd l i → take (e - i) (drop i l) ≡ first (wordsFrom l i)
+word-part l i e h p = rw (p, from-first l i h)

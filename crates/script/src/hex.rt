@@ -1,75 +1,80 @@
-// Bytes in hexadecimal digits, as a script has them.
-// Every answer is the definition's: specs/Script.antt, specs/Answers.antt.
-ghost use Prim.Native.Nat.{_+_, _*_, _≤_, _<_};
+// Bytes and sessions in hexadecimal digits, as a script has them.
+// Every answer is the definition's: specs/Script.antt, specs/Code.antt.
+ghost use Prim.Native.Nat.{_/_, _%_, _≤_};
 ghost use mathlib.Core.Path.{_≡_};
-ghost use mathlib.Core.Bool.{true};
+ghost use mathlib.Core.Bool.{cond};
+ghost use mathlib.Core.Option.{none, some};
 ghost use lib.ListN.{length};
-ghost use Rattle.memory.specs.Wrote.{Wrote};
-ghost use Rattle.script.specs.Script.{hexValue, allHex, isBytes, pairs};
-ghost use Rattle.script.specs.Answers.{fitting};
+ghost use Rattle.script.specs.Script.{hexValue, allHex, pairs, bytes, session};
+ghost use Rattle.script.specs.Code.{told, pairOf, Stored, Below};
+use crate::Number;
 
-// The bytes of a word, to the front of `out`, whole or not at all; answers how many. A word that is not proper has none.
-pub fn decode(text: &[u8], out: &mut [u8]) -> usize
-    ensures { λ r. ⌜ Wrote (now (out .entry)) 0 (fitting (length (now (out .entry))) (now (text .entry))) (now (out .exit)) r ⌝ }
+// The bytes of a word, to the front of `out`; answers how many.
+pub(crate) fn decode(text: &[u8], out: &mut [u8]) -> Number
+    requires { ⌜ length (now text) / 2 ≤ length (now out) ⌝ }
+    ensures { λ r. ⌜ Stored (bytes (now (text .entry))) (now (out .exit)) r ⌝ }
 {
-    if !is_bytes(text) {
-        return 0;
+    if memory::is_same(text, &text::NO_BYTES) {
+        return Number::Value(0);
     }
-    if out.len() < text.len() / 2 {
-        return 0;
+    if text.len() == 0 {
+        return Number::Nothing;
+    }
+    if text.len() % 2 != 0 {
+        return Number::Nothing;
     }
     store_pairs(text, out)
 }
 
-// Pairs of hexadecimal digits, or `-` for no bytes.
-pub(crate) fn is_bytes(text: &[u8]) -> bool
-    ensures { λ r. ⌜ r ≡ isBytes (now (text .entry)) ⌝ }
-{
-    if memory::is_same(text, &text::NO_BYTES) {
-        return true;
-    }
-    if text.len() == 0 {
-        return false;
-    }
-    if text.len() % 2 != 0 {
-        return false;
-    }
-    all_hex(text)
-}
-
-fn all_hex(text: &[u8]) -> bool
-    ensures { λ r. ⌜ r ≡ allHex (now (text .entry)) ⌝ }
-{
-    let mut i = 0;
-    while i < text.len() {
-        if 16 <= hex_value(text[i]) {
-            return false;
-        }
-        i += 1;
-    }
-    true
-}
-
-// The bytes of the pairs of digits, to the front of `out`.
-fn store_pairs(text: &[u8], out: &mut [u8]) -> usize
-    requires { ⌜ (length (pairs (now text)) ≤ length (now out)) × (isBytes (now text) ≡ true) ⌝ }
-    ensures { λ r. ⌜ Wrote (now (out .entry)) 0 (pairs (now (text .entry))) (now (out .exit)) r ⌝ }
+// The bytes of pairs of digits, each digit looked at once.
+fn store_pairs(text: &[u8], out: &mut [u8]) -> Number
+    requires { ⌜ (length (now text) / 2 ≤ length (now out)) × (length (now text) % 2 ≡ 0) ⌝ }
+    ensures { λ r. ⌜ Stored (cond (allHex (now (text .entry))) (some (pairs (now (text .entry)))) none) (now (out .exit)) r ⌝ }
 {
     let count = text.len() / 2;
     let mut i = 0;
     while i < count {
-        out[i] = pair(text[2 * i], text[2 * i + 1]);
+        let value = pair(text[2 * i], text[2 * i + 1]);
+        if 255 < value {
+            return Number::Nothing;
+        }
+        out[i] = value as u8;
         i += 1;
     }
-    count
+    Number::Value(count)
 }
 
-// The byte of two digits.
-fn pair(high: u8, low: u8) -> u8
-    requires { ⌜ (hexValue high < 16) × (hexValue low < 16) ⌝ }
-    ensures { λ r. ⌜ r ≡ hexValue high * 16 + hexValue low ⌝ }
+// The session that exactly four digits are.
+pub(crate) fn session(text: &[u8]) -> Number
+    ensures { λ r. ⌜ (told r ≡ session (now (text .entry))) × Below 65536 r ⌝ }
 {
-    hex_value(high) * 16 + hex_value(low)
+    if text.len() != 4 {
+        return Number::Nothing;
+    }
+    let high = pair(text[0], text[1]);
+    let low = pair(text[2], text[3]);
+    if 255 < high {
+        return Number::Nothing;
+    }
+    if 255 < low {
+        return Number::Nothing;
+    }
+    Number::Value(high * 256 + low)
+}
+
+// The byte of two digits; 256 where one is none.
+fn pair(high: u8, low: u8) -> usize
+    ensures { λ r. ⌜ r ≡ pairOf high low ⌝ }
+{
+    let tens = hex_value(high);
+    let ones = hex_value(low);
+    if 15 < tens {
+        return 256;
+    }
+    if 15 < ones {
+        return 256;
+    }
+    (tens as usize) * 16 + (ones as usize)
 }
 
 // The value of a hexadecimal digit in either case; 16 for what is none.

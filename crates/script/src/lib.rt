@@ -1,20 +1,19 @@
-// The script of `replay`: the call that a line of text stands for, and the bytes of its words.
-// Every answer is the definition's (specs/Script.antt, specs/Answers.antt); a line that is not exactly right is bad.
+// The script of `replay`: what a line of text is, its call and the bytes of its word.
+// Every answer is the definition's (specs/Script.antt, specs/Answers.antt); of a line that is not exactly right, the first word that cannot be taken is told.
 // It stands on bytes compared (`memory`), on the characters of `text`, and on the size of the node table.
 mod hex;
 mod numbers;
 mod parser;
 
-pub use hex::decode;
+pub use parser::DATA_MOST;
 pub use parser::LONGEST;
 pub use parser::ROOM_MOST;
 pub use parser::TABLE_MOST;
 pub use parser::parse;
 
-// A line's call. Its bytes stay where they are: `at` and `len` tell the word of hexadecimal digits.
+// What a line is: a call, a remark, bad from a word on, or too long. The bytes of a call are the first `len` of those that were lent for them.
 pub enum Call {
     Start {
-        at: usize,
         len: usize,
         table: usize,
     },
@@ -26,7 +25,6 @@ pub enum Call {
     Feed {
         line: u8,
         room: usize,
-        at: usize,
         len: usize,
         table: usize,
     },
@@ -38,7 +36,12 @@ pub enum Call {
         room: usize,
     },
     Show,
-    Bad,
+    Table,
+    Remark,
+    Bad {
+        word: u8,
+    },
+    Long,
 }
 
 // A number, where there is one.

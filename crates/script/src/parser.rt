@@ -1,9 +1,11 @@
-// A line of a script becomes a call; a line that is not exactly right is bad.
+// What a line of a script is; the words of a call are taken left to right, and the first that cannot be is told.
 // The answer is the definition's: specs/Script.antt, specs/Answers.antt.
+ghost use Prim.Native.Nat.{_/_, _≤_};
 ghost use mathlib.Core.Path.{_≡_};
-ghost use Rattle.script.specs.Script.{tableOf, startOf, enrolOf, feedOf, closeOf, finishOf, showOf, called, parse};
-ghost use Rattle.script.specs.Answers.{Tells};
-ghost use Rattle.script.specs.Code.{wordEnd, wordsFrom, lastNumber, told, Numbered, BytesAt};
+ghost use lib.ListN.{length};
+ghost use Rattle.script.specs.Script.{ended, startOf, enrolOf, feedOf, closeOf, finishOf, alone, show, table, called, isRemark, parse};
+ghost use Rattle.script.specs.Answers.{Tells, TellsAny};
+ghost use Rattle.script.specs.Code.{wordEnd, wordsFrom, Numbered, TableAt, SessionAt, BytesAt};
 use crate::Call;
 use crate::Number;
 use crate::Taken;
@@ -11,15 +13,18 @@ use crate::Taken;
 // No line has more bytes.
 pub const LONGEST: usize = 40000;
 
+// No line has more in hexadecimal digits.
+pub const DATA_MOST: usize = LONGEST / 2;
+
 // TABLE: the whole buffer. Without the word the hub's table is lent.
 pub const TABLE_MOST: usize = 16384;
 
-pub const ROOM_MOST: usize = 1024;
+pub const ROOM_MOST: usize = 8192;
 
 // LINE and NODE.
 const BYTE_MOST: usize = 255;
 
-// TYPE and SESSION.
+// TYPE.
 const PAIR_MOST: usize = 65535;
 
 const START: [u8; 5] = *b"start";
@@ -34,29 +39,45 @@ const FINISH: [u8; 6] = *b"finish";
 
 const SHOW: [u8; 4] = *b"show";
 
-// The call that a line without its LF stands for.
-pub fn parse(line: &[u8]) -> Call
-    ensures { λ r. ⌜ Tells (now (line .entry)) (parse (now (line .entry))) r ⌝ }
+const NODES: [u8; 5] = *b"table";
+
+// What a line without its LF is. The bytes of its word are stored at the front of `bytes`, where those of any line fit.
+pub fn parse(line: &[u8], bytes: &mut [u8; DATA_MOST]) -> Call
+    ensures { λ r. ⌜ Tells (parse (now (line .entry))) (now (bytes .exit)) r ⌝ }
 {
     if LONGEST < line.len() {
-        return Call::Bad;
+        return Call::Long;
+    }
+    if is_remark(line) {
+        return Call::Remark;
     }
     let end = word_end(line, 0);
-    called(&line[..end], line, end + 1)
+    called(&line[..end], line, end + 1, bytes)
+}
+
+// An empty line, and one that begins with `#`.
+fn is_remark(line: &[u8]) -> bool
+    ensures { λ r. ⌜ r ≡ isRemark (now (line .entry)) ⌝ }
+{
+    if line.len() == 0 {
+        return true;
+    }
+    line[0] == b'#'
 }
 
 // The call of a call word; the words behind it start at `from`.
-fn called(word: &[u8], line: &[u8], from: usize) -> Call
-    ensures { λ r. ⌜ Tells (now (line .entry)) (called (now (word .entry)) (wordsFrom (now (line .entry)) from)) r ⌝ }
+fn called(word: &[u8], line: &[u8], from: usize, bytes: &mut [u8]) -> Call
+    requires { ⌜ length (now line) / 2 ≤ length (now bytes) ⌝ }
+    ensures { λ r. ⌜ Tells (called (now (word .entry)) (wordsFrom (now (line .entry)) from)) (now (bytes .exit)) r ⌝ }
 {
     if memory::is_same(word, &START) {
-        return start(line, from);
+        return start(line, from, bytes);
     }
     if memory::is_same(word, &ENROL) {
         return enrol(line, from);
     }
     if memory::is_same(word, &FEED) {
-        return feed(line, from);
+        return feed(line, from, bytes);
     }
     if memory::is_same(word, &CLOSE) {
         return close(line, from);
@@ -67,25 +88,35 @@ fn called(word: &[u8], line: &[u8], from: usize) -> Call
     if memory::is_same(word, &SHOW) {
         return show(line, from);
     }
-    Call::Bad
+    if memory::is_same(word, &NODES) {
+        return nodes(line, from);
+    }
+    Call::Bad { word: 1 }
 }
 
 // "start BYTES [TABLE]".
-fn start(line: &[u8], from: usize) -> Call
-    ensures { λ r. ⌜ Tells (now (line .entry)) (startOf (wordsFrom (now (line .entry)) from)) r ⌝ }
+fn start(line: &[u8], from: usize, bytes: &mut [u8]) -> Call
+    requires { ⌜ length (now line) / 2 ≤ length (now bytes) ⌝ }
+    ensures { λ r. ⌜ Tells (startOf (wordsFrom (now (line .entry)) from)) (now (bytes .exit)) r ⌝ }
 {
     let Taken::Word {
         value: len,
         next: second,
-    } = bytes_at(line, from)
+    } = bytes_at(line, from, bytes)
     else {
-        return Call::Bad;
+        return Call::Bad { word: 2 };
     };
-    let Number::Value(table) = table_at(line, second) else {
-        return Call::Bad;
+    let Taken::Word {
+        value: table,
+        next: third,
+    } = table_at(line, second)
+    else {
+        return Call::Bad { word: 3 };
     };
+    if third <= line.len() {
+        return Call::Bad { word: 4 };
+    }
     Call::Start {
-        at: from,
         len: len,
         table: table,
     }
@@ -93,25 +124,32 @@ fn start(line: &[u8], from: usize) -> Call
 
 // "enrol NODE TYPE [TABLE]".
 fn enrol(line: &[u8], from: usize) -> Call
-    ensures { λ r. ⌜ Tells (now (line .entry)) (enrolOf (wordsFrom (now (line .entry)) from)) r ⌝ }
+    ensures { λ r. ⌜ TellsAny (enrolOf (wordsFrom (now (line .entry)) from)) r ⌝ }
 {
     let Taken::Word {
         value: node,
         next: second,
     } = number_at(line, from, BYTE_MOST)
     else {
-        return Call::Bad;
+        return Call::Bad { word: 2 };
     };
     let Taken::Word {
         value: kind,
         next: third,
     } = number_at(line, second, PAIR_MOST)
     else {
-        return Call::Bad;
+        return Call::Bad { word: 3 };
     };
-    let Number::Value(table) = table_at(line, third) else {
-        return Call::Bad;
+    let Taken::Word {
+        value: table,
+        next: fourth,
+    } = table_at(line, third)
+    else {
+        return Call::Bad { word: 4 };
     };
+    if fourth <= line.len() {
+        return Call::Bad { word: 5 };
+    }
     Call::Enrol {
         node: node as u8,
         kind: kind as u16,
@@ -120,37 +158,44 @@ fn enrol(line: &[u8], from: usize) -> Call
 }
 
 // "feed LINE ROOM BYTES [TABLE]".
-fn feed(line: &[u8], from: usize) -> Call
-    ensures { λ r. ⌜ Tells (now (line .entry)) (feedOf (wordsFrom (now (line .entry)) from)) r ⌝ }
+fn feed(line: &[u8], from: usize, bytes: &mut [u8]) -> Call
+    requires { ⌜ length (now line) / 2 ≤ length (now bytes) ⌝ }
+    ensures { λ r. ⌜ Tells (feedOf (wordsFrom (now (line .entry)) from)) (now (bytes .exit)) r ⌝ }
 {
     let Taken::Word {
         value: number,
         next: second,
     } = number_at(line, from, BYTE_MOST)
     else {
-        return Call::Bad;
+        return Call::Bad { word: 2 };
     };
     let Taken::Word {
         value: room,
         next: third,
     } = number_at(line, second, ROOM_MOST)
     else {
-        return Call::Bad;
+        return Call::Bad { word: 3 };
     };
     let Taken::Word {
         value: len,
         next: fourth,
-    } = bytes_at(line, third)
+    } = bytes_at(line, third, bytes)
     else {
-        return Call::Bad;
+        return Call::Bad { word: 4 };
     };
-    let Number::Value(table) = table_at(line, fourth) else {
-        return Call::Bad;
+    let Taken::Word {
+        value: table,
+        next: fifth,
+    } = table_at(line, fourth)
+    else {
+        return Call::Bad { word: 5 };
     };
+    if fifth <= line.len() {
+        return Call::Bad { word: 6 };
+    }
     Call::Feed {
         line: number as u8,
         room: room,
-        at: third,
         len: len,
         table: table,
     }
@@ -158,28 +203,42 @@ fn feed(line: &[u8], from: usize) -> Call
 
 // "close LINE".
 fn close(line: &[u8], from: usize) -> Call
-    ensures { λ r. ⌜ Tells (now (line .entry)) (closeOf (wordsFrom (now (line .entry)) from)) r ⌝ }
+    ensures { λ r. ⌜ TellsAny (closeOf (wordsFrom (now (line .entry)) from)) r ⌝ }
 {
-    let Number::Value(number) = last_number(line, from, BYTE_MOST) else {
-        return Call::Bad;
+    let Taken::Word {
+        value: number,
+        next: second,
+    } = number_at(line, from, BYTE_MOST)
+    else {
+        return Call::Bad { word: 2 };
     };
+    if second <= line.len() {
+        return Call::Bad { word: 3 };
+    }
     Call::Close { line: number as u8 }
 }
 
 // "finish SESSION ROOM".
 fn finish(line: &[u8], from: usize) -> Call
-    ensures { λ r. ⌜ Tells (now (line .entry)) (finishOf (wordsFrom (now (line .entry)) from)) r ⌝ }
+    ensures { λ r. ⌜ TellsAny (finishOf (wordsFrom (now (line .entry)) from)) r ⌝ }
 {
     let Taken::Word {
         value: session,
         next: second,
-    } = number_at(line, from, PAIR_MOST)
+    } = session_at(line, from)
     else {
-        return Call::Bad;
+        return Call::Bad { word: 2 };
     };
-    let Number::Value(room) = last_number(line, second, ROOM_MOST) else {
-        return Call::Bad;
+    let Taken::Word {
+        value: room,
+        next: third,
+    } = number_at(line, second, ROOM_MOST)
+    else {
+        return Call::Bad { word: 3 };
     };
+    if third <= line.len() {
+        return Call::Bad { word: 4 };
+    }
     Call::Finish {
         session: session as u16,
         room: room,
@@ -188,12 +247,22 @@ fn finish(line: &[u8], from: usize) -> Call
 
 // "show".
 fn show(line: &[u8], from: usize) -> Call
-    ensures { λ r. ⌜ Tells (now (line .entry)) (showOf (wordsFrom (now (line .entry)) from)) r ⌝ }
+    ensures { λ r. ⌜ TellsAny (alone show (ended (wordsFrom (now (line .entry)) from))) r ⌝ }
 {
-    if line.len() < from {
-        return Call::Show;
+    if from <= line.len() {
+        return Call::Bad { word: 2 };
     }
-    Call::Bad
+    Call::Show
+}
+
+// "table".
+fn nodes(line: &[u8], from: usize) -> Call
+    ensures { λ r. ⌜ TellsAny (alone table (ended (wordsFrom (now (line .entry)) from))) r ⌝ }
+{
+    if from <= line.len() {
+        return Call::Bad { word: 2 };
+    }
+    Call::Table
 }
 
 // The number in the word at `from`.
@@ -213,45 +282,52 @@ fn number_at(line: &[u8], from: usize, most: usize) -> Taken
     }
 }
 
-// The word of bytes at `from`.
-fn bytes_at(line: &[u8], from: usize) -> Taken
-    ensures { λ r. ⌜ BytesAt (now (line .entry)) from r ⌝ }
+// The session in the word at `from`.
+fn session_at(line: &[u8], from: usize) -> Taken
+    ensures { λ r. ⌜ SessionAt (now (line .entry)) from r ⌝ }
 {
     if line.len() < from {
         return Taken::Nothing;
     }
     let end = word_end(line, from);
-    if !crate::hex::is_bytes(&line[from..end]) {
+    let Number::Value(value) = crate::hex::session(&line[from..end]) else {
         return Taken::Nothing;
-    }
+    };
     Taken::Word {
-        value: end - from,
+        value: value,
         next: end + 1,
     }
 }
 
-// The number in the word at `from`, if no word follows.
-fn last_number(line: &[u8], from: usize, most: usize) -> Number
-    ensures { λ r. ⌜ told r ≡ lastNumber most (wordsFrom (now (line .entry)) from) ⌝ }
+// The bytes of the word at `from`, stored at the front of `out`.
+fn bytes_at(line: &[u8], from: usize, out: &mut [u8]) -> Taken
+    requires { ⌜ length (now line) / 2 ≤ length (now out) ⌝ }
+    ensures { λ r. ⌜ BytesAt (now (line .entry)) from (now (out .exit)) r ⌝ }
 {
     if line.len() < from {
-        return Number::Nothing;
+        return Taken::Nothing;
     }
     let end = word_end(line, from);
-    if end < line.len() {
-        return Number::Nothing;
+    let Number::Value(value) = crate::hex::decode(&line[from..end], out) else {
+        return Taken::Nothing;
+    };
+    Taken::Word {
+        value: value,
+        next: end + 1,
     }
-    crate::numbers::number_in(&line[from..end], most)
 }
 
-// TABLE in the last word, or what is lent without it.
-fn table_at(line: &[u8], from: usize) -> Number
-    ensures { λ r. ⌜ told r ≡ tableOf (wordsFrom (now (line .entry)) from) ⌝ }
+// TABLE in the word at `from`, or what is lent without it.
+fn table_at(line: &[u8], from: usize) -> Taken
+    ensures { λ r. ⌜ TableAt (now (line .entry)) from r ⌝ }
 {
     if line.len() < from {
-        return Number::Value(nodes::TABLE);
+        return Taken::Word {
+            value: nodes::TABLE,
+            next: from,
+        };
     }
-    last_number(line, from, TABLE_MOST)
+    number_at(line, from, TABLE_MOST)
 }
 
 // Where the word ends that starts at `from`: at the next space, or with the line.

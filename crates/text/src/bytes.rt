@@ -1,4 +1,4 @@
-// A line that tells a number and some bytes in hexadecimal, appended to lent memory at a place.
+// A line that tells a number and some bytes in hexadecimal, and one such byte alone, appended to lent memory at a place.
 // It is written whole or not at all, and is the definition's to the byte: specs/Bytes.antt, specs/Appended.antt.
 ghost use Prim.Native.Nat.{_+_, _*_, _≤_};
 ghost use mathlib.Core.Path.{_≡_};
@@ -29,6 +29,16 @@ pub fn bytes_line(
     let word = crate::numbered::append_numbered(out, at, before, number, behind);
     let last = put_bytes(out, word, bytes);
     crate::words::append(out, last, end)
+}
+
+// The two hexadecimal digits of a byte.
+pub fn append_hex2(out: &mut [u8], at: usize, byte: u8) -> usize
+    ensures { λ r. ⌜ Leaves (appended (now (out .entry)) at (hex2 byte)) (now (out .exit)) r ⌝ }
+{
+    if crate::words::room(out.len(), at) < 2 {
+        return at;
+    }
+    hex2(out, at, byte)
 }
 
 // Whether a number, the text of so many bytes and the line's end fit.
@@ -74,7 +84,7 @@ fn hex_pairs(out: &mut [u8], at: usize, bytes: &[u8]) -> usize
     place
 }
 
-// The two hexadecimal digits of a byte.
+// The two digits, where there is room for them.
 fn hex2(out: &mut [u8], at: usize, byte: u8) -> usize
     requires { ⌜ at + 2 ≤ length (now out) ⌝ }
     ensures { λ r. ⌜ Wrote (now (out .entry)) at (hex2 byte) (now (out .exit)) r ⌝ }

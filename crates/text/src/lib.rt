@@ -6,6 +6,7 @@ mod digits;
 mod numbered;
 mod words;
 
+pub use bytes::append_hex2;
 pub use bytes::bytes_line;
 pub use digits::append_decimal;
 pub use digits::append_hex4;

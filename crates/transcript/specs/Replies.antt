@@ -16,7 +16,7 @@ use Rattle.rules.specs.declared.FeedAnswer.{FeedAnswer}
 use Rattle.rules.specs.declared.FeedAnswer.the-variants as feed
 use Rattle.report.specs.Report.{doneLine, refusedLine, finishedLine, noneLine, frameLine, packetLine, hasSpilled}
 
--- the reply buffer is filled with it before each call
+-- the lent room is filled with it before each call
 abbrev pub filler : ℕ
 filler = 0xA5
 

@@ -7,7 +7,7 @@ use Rattle.line.specs.declared.Fault.the-variants as fault
 use Rattle.line.specs.declared.Mode.the-variants as mode
 use Rattle.line.specs.declared.Reading.{Reading}
 use Rattle.frame.specs.Reader.{taken}
-use Rattle.nodes.specs.Table.{recordSize, bit}
+use Rattle.nodes.specs.Table.{recordSize, bit, inUse}
 use Rattle.sessions.specs.declared.Slot.{Slot}
 use Rattle.sessions.specs.Sessions.{slotCount, closedSlot}
 use Rattle.rules.specs.declared.Hub.{Hub}
@@ -15,9 +15,10 @@ use Rattle.text.specs.Text.{ascii, digit, decimalIn, decimal}
 use Rattle.text.specs.Appended.{appended}
 use Rattle.text.specs.Bytes.{hexPairs, bytesWord}
 use Rattle.report.specs.Report.{hasOther}
+use Rattle.report.specs.Entry.{nameLength, shown, shownAll, entryHead, entryLine}
 use Rattle.report.specs.State.{flag, loginLine, nodeWord, nodesBelow, slotLine, nodeLine, modeWord, readingLine, endLine}
 use Rattle.transcript.specs.Lines.{appendedAll, linesBelow}
-use Rattle.transcript.specs.State.{slotLines, recordLines, nodeLines, modeOf, readingLines, stateLines}
+use Rattle.transcript.specs.State.{slotLines, recordLines, nodeLines, modeOf, readingLines, stateLines, entryLines, listedLines, tableLines}
 
 -- a session in slot 2, and in slots 0 and 1 what a closed one might have left
 session : ℕ → Slot
@@ -44,7 +45,7 @@ node = ascii "node 1 01" ++ replicate (2 * (recordSize - 1)) 48 ++ ascii "\n"
 
 state : stateLines hub table (map taken readings)
     ≡ ascii "login 0100\n"
-    ∷ ascii "slot 2 01A2 3 7\n"
+    ∷ ascii "slot 2 session 01A2 line 3 nodes 7\n"
     ∷ node
     ∷ ascii "line 0 escaped 00FE\n"
     ∷ ascii "line 1 plain -\n"
@@ -61,3 +62,11 @@ state = refl
 lines : appendedAll (0 ∷ 0 ∷ 0 ∷ []) 0 ((1 ∷ 2 ∷ []) ∷ (3 ∷ 4 ∷ []) ∷ (5 ∷ []) ∷ []) ≡ record { bytes = 1 ∷ 2 ∷ 5 ∷ []; place = 3 }
 unfolding appended appendedAll
 lines = refl
+
+-- the second record again: in use, with type, name, order, placement and variation
+named : List ℕ
+named = replicate recordSize 0 ++ (1 ∷ 0x01 ∷ 0xC2 ∷ []) ++ ascii "Hall" ++ replicate 60 0 ++ (1 ∷ 2 ∷ 3 ∷ 4 ∷ 9 ∷ []) ++ (1 ∷ [])
+
+listed : tableLines named ≡ ascii "node 1 type 01C2 order 258 placement 3 variation 4 name \"Hall\"\n" ∷ ascii "end\n" ∷ []
+unfolding named ascii digit decimalIn decimal inUse nameLength shown shownAll entryHead entryLine endLine linesBelow entryLines listedLines tableLines
+listed = refl

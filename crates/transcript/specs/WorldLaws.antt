@@ -6,8 +6,8 @@ use mathlib.Core.Bool.{Bool, true, false, cond, true≢false}
 use mathlib.Core.Option.{Option, none, some}
 use native.Mathlib.Omega.{arith}
 use lib.Dec.{ltb, eqb}
-use lib.ListN.{length, take, drop, replicate, length-append, length-take, length-drop}
-use lib.Seq.{take-at, take-append-le, drop-append-le, drop-append-seam}
+use lib.ListN.{length, take, drop, replicate, length-take, length-drop}
+use lib.Seq.{take-at, drop-append-seam}
 use borrow.Author.Tests.{eq-eqb}
 use Rattle.line.specs.declared.Reading.{Reading}
 use Rattle.frame.specs.Line.{limit}
@@ -47,22 +47,11 @@ other-cons f b l p = go (eqb b f) refl p
     go true e p = (e, p)
     go false e p = absurd (true≢false p)
 
-other-append : (f : ℕ) (xs ys : List ℕ) → hasOther f xs ≡ false → hasOther f ys ≡ false → hasOther f (xs ++ ys) ≡ false
-unfolding hasOther
-other-append f [] ys p q = q
-other-append f (b ∷ xs) ys p q = let (e, r) = other-cons f b xs p in rw e (other-append f xs ys r q)
-
-pub other-drop : (f n : ℕ) (l : List ℕ) → hasOther f l ≡ false → hasOther f (drop n l) ≡ false
+other-drop : (f n : ℕ) (l : List ℕ) → hasOther f l ≡ false → hasOther f (drop n l) ≡ false
 unfolding hasOther
 other-drop f zero l p = p
 other-drop f (suc n) [] p = p
 other-drop f (suc n) (b ∷ l) p = other-drop f n l (other-cons f b l p .1)
-
-pub other-take : (f n : ℕ) (l : List ℕ) → hasOther f l ≡ false → hasOther f (take n l) ≡ false
-unfolding hasOther
-other-take f zero l p = refl
-other-take f (suc n) [] p = p
-other-take f (suc n) (b ∷ l) p = let (e, r) = other-cons f b l p in rw e (other-take f n l r)
 
 pub other-none : (f n : ℕ) → hasOther f (replicate n f) ≡ false
 unfolding hasOther
@@ -76,7 +65,7 @@ unfolding callLine callTold
 call-told call.Done = refl
 call-told (call.Refused r) = refl
 
--- ---- calls with room: `part` of it is lent, `rest` stands behind
+-- ---- calls with room: `part` is lent, all filler
 
 -- the length that finish tells is the reply's
 finish-length : (h : Hub) (x room l k : ℕ) → rules.finish h x room .answer ≡ rules.finishedOn l k → k ≡ length (rules.finish h x room .reply)
@@ -96,23 +85,16 @@ outcome-told u (given.Frame c k) bs reply n w =
     ap (λ (z : ℕ). frameLine u c z reply false) (sym long)
 outcome-told u (given.Refused r) bs reply n w = refl
 
-module _ (part rest : List ℕ) (p : hasOther filler part ≡ false) (q : hasOther filler rest ≡ false) where
-  -- a reply x of k bytes: it is what the room's first k bytes are, and behind it is filler
-  module _ (x left : List ℕ) (k : ℕ) (long : k ≡ length x) (e : left ≡ x ++ drop (length x) part) where
-    reply-within : k ≤ length left
-    reply-within = omega (arith, ap length e, length-append x (drop (length x) part))
-
-    reply-told : take k (left ++ rest) ≡ take k left
-    reply-told = take-append-le k left rest reply-within
-
-    none-spilled : hasSpilled (left ++ rest) k filler ≡ false
-    unfolding hasSpilled
-    none-spilled =
-        let behind : drop k left ≡ drop (length x) part = ap (drop k) e ∙ ap (λ (n : ℕ). drop n (x ++ drop (length x) part)) long ∙ drop-append-seam x (drop (length x) part) in
-        rw (drop-append-le k left rest reply-within, behind) (other-append filler (drop (length x) part) rest (other-drop filler (length x) part p) q)
+module _ (part : List ℕ) (p : hasOther filler part ≡ false) where
+  -- a reply x of k bytes: behind it is filler
+  none-spilled : (x left : List ℕ) (k : ℕ) → k ≡ length x → left ≡ x ++ drop (length x) part → hasSpilled left k filler ≡ false
+  unfolding hasSpilled
+  none-spilled x left k long e =
+      let behind : drop k left ≡ drop (length x) part = ap (drop k) e ∙ ap (λ (n : ℕ). drop n (x ++ drop (length x) part)) long ∙ drop-append-seam x (drop (length x) part) in
+      rw behind (other-drop filler (length x) part p)
 
   pub finish-told : (h : Hub) (x : ℕ) (a : FinishAnswer) (g : Hub) (left : List ℕ) → Finishes h x part a g left
-      → finishLine a (left ++ rest) ≡ finishTold (rules.finish h x (length part) .answer) (rules.finish h x (length part) .reply)
+      → finishLine a left ≡ finishTold (rules.finish h x (length part) .answer) (rules.finish h x (length part) .reply)
   unfolding finishLine finishTold refusalLine
   finish-told h x (finish.Refused r) g left w =
       let f = finish-refused h x (length part) (number r) (sym (w .answer)) in
@@ -120,19 +102,19 @@ module _ (part rest : List ℕ) (p : hasOther filler part ≡ false) (q : hasOth
       rw (f, none-spilled [] left 0 refl room)
   finish-told h x (finish.Finished l k) g left w =
       let F = rules.finish h x (length part) in
-      let long = finish-length h x (length part) l k (sym (w .answer)) in
-      let told : take k left ≡ F .reply = ap (take k) (w .room) ∙ take-at (F .reply) (drop (length (F .reply)) part) k (sym long) in
-      rw (reply-told (F .reply) left k long (w .room), none-spilled (F .reply) left k long (w .room), told, ← w .answer)
+      let size = finish-length h x (length part) l k (sym (w .answer)) in
+      let told : take k left ≡ F .reply = ap (take k) (w .room) ∙ take-at (F .reply) (drop (length (F .reply)) part) k (sym size) in
+      rw (none-spilled (F .reply) left k size (w .room), told, ← w .answer)
 
   pub feed-told : (h : Hub) (t : List ℕ) (r : Reading) (l : ℕ) (bytes : List ℕ) (a : FeedAnswer) (g : Hub) (e : Reading) (t′ left : List ℕ)
       → Feeds h t r l bytes part a g t′ e left
-      → feedLine a (left ++ rest) ≡ feedTold (answerOf a (e .bytes)) (take (lengthOf (answerOf a (e .bytes))) left)
+      → feedLine a left ≡ feedTold (answerOf a (e .bytes)) (take (lengthOf (answerOf a (e .bytes))) left)
   unfolding feedLine feedTold refusalLine lengthOf
   feed-told h t r l bytes (feed.Refused why) g e t′ left w =
       let room : left ≡ part = refused-untouched (feeds-promise w) (number why) refl .3 in
       rw (none-spilled [] left 0 refl room)
   feed-told h t r l bytes (feed.Told u o k) g e t′ left w =
       let c = called rules.hub h t r l bytes part in
-      let long : k ≡ length (c .result .reply) = ap lengthOf (w .answer) ∙ call-length rules.hub h t _ l bytes (length part) in
-      rw (reply-told (c .result .reply) left k long (w .room), none-spilled (c .result .reply) left k long (w .room))
+      let size : k ≡ length (c .result .reply) = ap lengthOf (w .answer) ∙ call-length rules.hub h t _ l bytes (length part) in
+      rw (none-spilled (c .result .reply) left k size (w .room))
       (outcome-told u o (e .bytes) (take k left) (w .bounded .0 .0) (w .bounded .1))

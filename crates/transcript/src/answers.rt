@@ -11,7 +11,7 @@ use rules::CallRefusal;
 use rules::FeedAnswer;
 use rules::FinishAnswer;
 
-// The reply buffer is filled with it before each call.
+// The lent room is filled with it before each call.
 pub const FILLER: u8 = 0xA5;
 
 // A call without room: "done", or "refused N".

@@ -2,6 +2,7 @@
 // What a line answers and leaves is the definition's: specs/World.antt, and what `play` promises specs/Plays.antt.
 // It stands on the calls of `script`, on what `hub` promises, and on the lines of `report`.
 mod answers;
+mod listing;
 mod state;
 mod world;
 
@@ -11,6 +12,7 @@ use line::Reading;
 use rules::Hub;
 use rules::LINES;
 pub use world::first;
+pub use world::next_number;
 pub use world::play;
 
 // What lasts from line to line beside the table, and the place in the output.

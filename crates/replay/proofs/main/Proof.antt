@@ -8,13 +8,11 @@ use Rattle.replay.proofs.main.Tie as tie
 
 -- What is lent keeps its length, and an open line is held up to one byte more than the longest line has.
 abbrev Inv-loop : tie.InvT-loop
-Inv-loop table₀ text₀ out₀ run₀ held₀ turns₀ table text out run held turns = (length table ≡ tableMost) × (length text ≡ longest + 65537) × (length out ≡ 65536) × (held ≤ longest + 1)
+Inv-loop table₀ text₀ decoded₀ room₀ out₀ run₀ number₀ held₀ turns₀ table text decoded room out run number held turns =
+    (length table ≡ tableMost) × (length text ≡ longest + 65537) × (length out ≡ 98304) × (held ≤ longest + 1)
 
 abbrev μ-loop : tie.MeasureT-loop
-μ-loop table₀ text₀ out₀ run₀ held₀ turns₀ table text out run held turns = turns
-
-large-buffer-requires : tie.Need-large-buffer-requires Inv-loop μ-loop
-large-buffer-requires c κs = search needs
+μ-loop table₀ text₀ decoded₀ room₀ out₀ run₀ number₀ held₀ turns₀ table text decoded room out run number held turns = turns
 
 first-requires : tie.Need-first-requires Inv-loop μ-loop
 first-requires c κs = search needs
@@ -44,7 +42,7 @@ loop-less : tie.Need-loop-less Inv-loop μ-loop
 loop-less c = search needs
 
 loop-again : tie.Need-loop-again Inv-loop μ-loop
-loop-again c = search needs
+loop-again c = (search needs, search needs, search needs, search needs)
 
 returns-2 : tie.Need-returns-2 Inv-loop μ-loop
 returns-2 c = search needs
@@ -55,7 +53,6 @@ main-spec =
     (tie.spec
     Inv-loop
     μ-loop
-    large-buffer-requires
     first-requires
     loop-holds
     slice-aggregate-turn

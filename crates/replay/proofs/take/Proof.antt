@@ -7,10 +7,11 @@ use Rattle.replay.proofs.take.Tie as tie
 
 -- What is lent keeps its length, and the open line lies within the bytes.
 abbrev Inv-loop : tie.InvT-loop
-Inv-loop bytes seen table₀ out₀ all₀ from₀ end₀ table out all from end = (length table ≡ length table₀) × (length out ≡ length out₀) × (from ≤ end) × (end ≤ length bytes)
+Inv-loop first bytes seen table₀ decoded₀ room₀ out₀ all₀ number₀ from₀ end₀ table decoded room out all number from end =
+    (length table ≡ length table₀) × (length out ≡ length out₀) × (from ≤ end) × (end ≤ length bytes)
 
 abbrev μ-loop : tie.MeasureT-loop
-μ-loop bytes seen table₀ out₀ all₀ from₀ end₀ table out all from end = length bytes - end
+μ-loop first bytes seen table₀ decoded₀ room₀ out₀ all₀ number₀ from₀ end₀ table decoded room out all number from end = length bytes - end
 
 line-end-requires : tie.Need-line-end-requires Inv-loop μ-loop
 line-end-requires c κs = search needs
@@ -21,20 +22,17 @@ loop-holds c = search needs
 add-next : tie.Need-add-next Inv-loop μ-loop
 add-next c = search needs
 
-sub-play : tie.Need-sub-play Inv-loop μ-loop
-sub-play c = search needs
+sub-one : tie.Need-sub-one Inv-loop μ-loop
+sub-one c = search needs
 
-part-play-start : tie.Need-part-play-start Inv-loop μ-loop
-part-play-start c = search needs
+part-one-start : tie.Need-part-one-start Inv-loop μ-loop
+part-one-start c = search needs
 
-part-play-end : tie.Need-part-play-end Inv-loop μ-loop
-part-play-end c = search needs
+part-one-end : tie.Need-part-one-end Inv-loop μ-loop
+part-one-end c = search needs
 
-play-requires : tie.Need-play-requires Inv-loop μ-loop
-play-requires c κs = search needs
-
-flush-requires : tie.Need-flush-requires Inv-loop μ-loop
-flush-requires c κs = search needs
+one-requires : tie.Need-one-requires Inv-loop μ-loop
+one-requires c κs = search needs
 
 same-length : tie.Need-same-length Inv-loop μ-loop
 same-length c = search needs
@@ -78,11 +76,10 @@ take-spec =
     line-end-requires
     loop-holds
     add-next
-    sub-play
-    part-play-start
-    part-play-end
-    play-requires
-    flush-requires
+    sub-one
+    part-one-start
+    part-one-end
+    one-requires
     same-length
     same-length-2
     returns

@@ -28,7 +28,7 @@ returns c =
     let start = c .before .before .before .before .before .before .before .before .before .before .before in
     let a = start .args in
     built-word (hex4 (a .session)) (omega arith) (c .before .before .append-hex4 .ensures)
-    (built-numbered (ascii "slot ") (a .slot) (ascii " ") (omega arith) (omega arith) (c .before .before .before .before .before .before .append-numbered .ensures)
+    (built-numbered (ascii "slot ") (a .slot) (ascii " session ") (omega arith) (omega arith) (c .before .before .before .before .before .before .append-numbered .ensures)
     (built-none _ slotSize (start .pre)))
 
 pub slot-head-spec : {M : Type 1} → statement M

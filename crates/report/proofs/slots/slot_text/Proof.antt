@@ -4,7 +4,7 @@ use native.Mathlib.Omega.{arith}
 use Rattle.text.specs.Text.{ascii, decimal, hex4}
 use Rattle.text.specs.Built.{Built}
 use Rattle.text.specs.BuiltLaws.{built-wrote, built-word, built-all, built-room}
-use Rattle.text.specs.NumberedLaws.{built-word-number}
+use Rattle.text.specs.NumberedLaws.{built-numbered}
 use Rattle.sessions.specs.Sessions.{targetCount}
 use Rattle.report.specs.State.{slotSize, nodesBelow, slotLine}
 use Rattle.report.specs.SlotLaws.{nodesBelow-short}
@@ -14,9 +14,9 @@ use Rattle.report.proofs.slots.slot_text.Tie as tie
 
 -- the line up to its nodes
 head : (c : tie.After-append-numbered) → let a = c .before .before .before .before .before .before .before .before .before .args in
-    Built slotSize 51 (ascii "slot " ++ decimal (a .slot) ++ ascii " " ++ hex4 (a .session) ++ ascii " " ++ decimal (a .line)) (c .append-numbered .last .0) (c .append-numbered .result)
+    Built slotSize 70 (ascii "slot " ++ decimal (a .slot) ++ ascii " session " ++ hex4 (a .session) ++ ascii " line " ++ decimal (a .line) ++ ascii " nodes") (c .append-numbered .last .0) (c .append-numbered .result)
 unfolding ascii
-head c = built-word-number (ascii " ") (c .before .before .before .before .before .before .before .before .before .args .line) (omega arith) (omega arith) (c .append-numbered .ensures) (c .before .before .before .before .before .before .slot-head .ensures)
+head c = built-numbered (ascii " line ") (c .before .before .before .before .before .before .before .before .before .args .line) (ascii " nodes") (omega arith) (omega arith) (c .append-numbered .ensures) (c .before .before .before .before .before .before .slot-head .ensures)
 
 slot-head-requires : tie.Need-slot-head-requires
 slot-head-requires c κs = search needs

@@ -1,53 +1,61 @@
-use Prim.Native.Nat.{_≤_}
-use mathlib.Core.Path.{sym, _∙_}
 use native.Mathlib.Omega.{arith}
-use lib.ListN.{length}
-use borrow.Author.Tests.{not-true, not-false}
+use Prim.Native.Nat.{_-_, _≤_}
+use lib.ListN.{length, drop, length-take, length-drop}
 use Rattle.memory.specs.Octets.{same}
 use Rattle.text.specs.Text.{ascii}
-use Rattle.script.specs.Script.{isBytes}
+use Rattle.script.specs.Script.{isBytes, bytes}
 use Rattle.script.specs.WordLaws.{end-part, from-behind, from-first, from-rest}
-use Rattle.script.specs.CallLaws.{word-part}
 use borrow.Author.Needs.{needs}
 use Rattle.script.proofs.parser.bytes_at.Statement.{statement}
 use Rattle.script.proofs.parser.bytes_at.Tie as tie
 
 -- the word's end lies between its start and the line's end
-end : (c : tie.After-word-end) → (c .before .before .before .args .from ≤ c .word-end .result) × (c .word-end .result ≤ length (c .before .before .before .args .line .now))
+end : (c : tie.After-word-end) → (c .before .before .before .before .args .from ≤ c .word-end .result) × (c .word-end .result ≤ length (c .before .before .before .before .args .line .now))
 end c = end-part _ _ _ (c .before .if1 .left) (c .word-end .ensures)
 
 returns : tie.Need-returns
-unfolding isBytes ascii same
+unfolding bytes isBytes ascii same
 returns c = rw (from-behind _ _ (c .if1 .taken))
 
 word-end-requires : tie.Need-word-end-requires
 word-end-requires c κs = search needs
 
-sub-is-bytes : tie.Need-sub-is-bytes
-sub-is-bytes c = end c .0
+sub-decode : tie.Need-sub-decode
+sub-decode c = end c .0
 
-part-is-bytes-start : tie.Need-part-is-bytes-start
-part-is-bytes-start c = omega (arith, end c .0, end c .1)
+part-decode-start : tie.Need-part-decode-start
+part-decode-start c = omega (arith, end c .0, end c .1)
 
-part-is-bytes-end : tie.Need-part-is-bytes-end
-part-is-bytes-end c = omega (arith, end c .0, end c .1)
+part-decode-end : tie.Need-part-decode-end
+part-decode-end c = omega (arith, end c .0, end c .1)
 
-is-bytes-requires : tie.Need-is-bytes-requires
-is-bytes-requires c κs = search needs
+decode-requires : tie.Need-decode-requires
+decode-requires c κs =
+    omega (arith, length-take (c .before .before .word-end .result - c .before .before .before .before .before .before .args .from) (drop (c .before .before .before .before .before .before .args .from) (c .before .before .before .before .before .before .args .line .now)), length-drop (c .before .before .before .before .before .before .args .from) (c .before .before .before .before .before .before .args .line .now), c .before .before .before .before .before .before .pre)
+
+enum-known-value : tie.Need-enum-known-value
+enum-known-value c = search needs
+
+enum-told : tie.Need-enum-told
+enum-told c = search needs
+
+same-length : tie.Need-same-length
+same-length c = search needs
 
 returns-2 : tie.Need-returns-2
-returns-2 c = rw (from-first _ _ (c .before .before .before .before .if1 .left), ← c .before .before .before .word-end .ensures) (sym (c .before .is-bytes .ensures) ∙ not-true _ (c .if2 .taken))
+returns-2 c =
+    rw (from-first _ _ (c .before .before .before .before .before .before .before .before .if1 .left), ← c .before .before .before .before .before .before .before .word-end .ensures) (rw (c .enum-told .given .1) at (c .before .before .before .before .decode .ensures))
 
-sub-t4 : tie.Need-sub-t4
-sub-t4 c = end (c .before .before .before) .0
+add-t6 : tie.Need-add-t6
+add-t6 c = omega (arith, end (c .before .before .before .before .before .before .before .before) .1)
 
-add-t10 : tie.Need-add-t10
-add-t10 c = omega (arith, end (c .before .before .before) .1)
+same-length-2 : tie.Need-same-length-2
+same-length-2 c = search needs
 
 returns-3 : tie.Need-returns-3
 returns-3 c =
-    let h = end (c .before .before .before) in
-    (rw (from-first _ _ (c .before .before .before .before .if1 .left), ← c .before .before .before .word-end .ensures) (sym (c .before .is-bytes .ensures) ∙ not-false _ (c .if2 .left)), rw (c .before .before .before .word-end .ensures) (from-rest _ _), word-part _ _ _ (c .before .before .before .before .if1 .left) (c .before .before .before .word-end .ensures), omega (arith, h .0, h .1))
+    let s = rw (c .before .value .given .1) at (c .before .before .before .before .before .decode .ensures) in
+    (rw (from-first _ _ (c .before .before .before .before .before .before .before .before .before .if1 .left), ← c .before .before .before .before .before .before .before .before .word-end .ensures) (s .0), s .1, rw (c .before .before .before .before .before .before .before .before .word-end .ensures) (from-rest _ _))
 
 pub bytes-at-spec : {M : Type 1} → statement M
 bytes-at-spec =
@@ -55,11 +63,14 @@ bytes-at-spec =
     (tie.spec
     returns
     word-end-requires
-    sub-is-bytes
-    part-is-bytes-start
-    part-is-bytes-end
-    is-bytes-requires
+    sub-decode
+    part-decode-start
+    part-decode-end
+    decode-requires
+    enum-known-value
+    enum-told
+    same-length
     returns-2
-    sub-t4
-    add-t10
+    add-t6
+    same-length-2
     returns-3)

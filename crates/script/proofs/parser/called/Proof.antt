@@ -19,11 +19,14 @@ is-same-requires c κs = search needs
 start-requires : tie.Need-start-requires
 start-requires c κs = search needs
 
+same-length : tie.Need-same-length
+same-length c = search needs
+
 returns : tie.Need-returns
 unfolding called ascii
 returns c =
-    rw (is (c .before .before .is-same .ensures) (c .before .if1 .taken))
-    (c .start .ensures)
+    rw (is (c .before .before .before .before .before .is-same .ensures) (c .before .before .before .before .if1 .taken))
+    (c .before .before .start .ensures)
 
 slice-aggregate-is-same-2 : tie.Need-slice-aggregate-is-same-2
 slice-aggregate-is-same-2 c = search needs
@@ -37,9 +40,8 @@ enrol-requires c κs = search needs
 returns-2 : tie.Need-returns-2
 unfolding called ascii
 returns-2 c =
-    let e1 = c .before .before .before .before in
-    rw (is (e1 .before .is-same .ensures) (e1 .if1 .left), is (c .before .before .is-same2 .ensures) (c .before .if2 .taken))
-    (c .enrol .ensures)
+    rw (is (c .before .before .before .before .before .is-same .ensures) (c .before .before .before .before .if1 .left), is (c .before .before .is-same2 .ensures) (c .before .if2 .taken))
+    (c .enrol .ensures _)
 
 slice-aggregate-is-same-3 : tie.Need-slice-aggregate-is-same-3
 slice-aggregate-is-same-3 c = search needs
@@ -50,13 +52,14 @@ is-same-requires-3 c κs = search needs
 feed-requires : tie.Need-feed-requires
 feed-requires c κs = search needs
 
+same-length-2 : tie.Need-same-length-2
+same-length-2 c = search needs
+
 returns-3 : tie.Need-returns-3
 unfolding called ascii
 returns-3 c =
-    let e2 = c .before .before .before .before in
-    let e1 = e2 .before .before .before in
-    rw (is (e1 .before .is-same .ensures) (e1 .if1 .left), is (e2 .before .is-same2 .ensures) (e2 .if2 .left), is (c .before .before .is-same3 .ensures) (c .before .if3 .taken))
-    (c .feed .ensures)
+    rw (is (c .before .before .before .before .before .before .before .before .before .before .before .is-same .ensures) (c .before .before .before .before .before .before .before .before .before .before .if1 .left), is (c .before .before .before .before .before .before .before .before .is-same2 .ensures) (c .before .before .before .before .before .before .before .if2 .left), is (c .before .before .before .before .before .is-same3 .ensures) (c .before .before .before .before .if3 .taken))
+    (c .before .before .feed .ensures)
 
 slice-aggregate-is-same-4 : tie.Need-slice-aggregate-is-same-4
 slice-aggregate-is-same-4 c = search needs
@@ -70,11 +73,8 @@ close-requires c κs = search needs
 returns-4 : tie.Need-returns-4
 unfolding called ascii
 returns-4 c =
-    let e3 = c .before .before .before .before in
-    let e2 = e3 .before .before .before in
-    let e1 = e2 .before .before .before in
-    rw (is (e1 .before .is-same .ensures) (e1 .if1 .left), is (e2 .before .is-same2 .ensures) (e2 .if2 .left), is (e3 .before .is-same3 .ensures) (e3 .if3 .left), is (c .before .before .is-same4 .ensures) (c .before .if4 .taken))
-    (c .close .ensures)
+    rw (is (c .before .before .before .before .before .before .before .before .before .before .before .is-same .ensures) (c .before .before .before .before .before .before .before .before .before .before .if1 .left), is (c .before .before .before .before .before .before .before .before .is-same2 .ensures) (c .before .before .before .before .before .before .before .if2 .left), is (c .before .before .before .before .before .is-same3 .ensures) (c .before .before .before .before .if3 .left), is (c .before .before .is-same4 .ensures) (c .before .if4 .taken))
+    (c .close .ensures _)
 
 slice-aggregate-is-same-5 : tie.Need-slice-aggregate-is-same-5
 slice-aggregate-is-same-5 c = search needs
@@ -88,12 +88,8 @@ finish-requires c κs = search needs
 returns-5 : tie.Need-returns-5
 unfolding called ascii
 returns-5 c =
-    let e4 = c .before .before .before .before in
-    let e3 = e4 .before .before .before in
-    let e2 = e3 .before .before .before in
-    let e1 = e2 .before .before .before in
-    rw (is (e1 .before .is-same .ensures) (e1 .if1 .left), is (e2 .before .is-same2 .ensures) (e2 .if2 .left), is (e3 .before .is-same3 .ensures) (e3 .if3 .left), is (e4 .before .is-same4 .ensures) (e4 .if4 .left), is (c .before .before .is-same5 .ensures) (c .before .if5 .taken))
-    (c .finish .ensures)
+    rw (is (c .before .before .before .before .before .before .before .before .before .before .before .before .before .before .is-same .ensures) (c .before .before .before .before .before .before .before .before .before .before .before .before .before .if1 .left), is (c .before .before .before .before .before .before .before .before .before .before .before .is-same2 .ensures) (c .before .before .before .before .before .before .before .before .before .before .if2 .left), is (c .before .before .before .before .before .before .before .before .is-same3 .ensures) (c .before .before .before .before .before .before .before .if3 .left), is (c .before .before .before .before .before .is-same4 .ensures) (c .before .before .before .before .if4 .left), is (c .before .before .is-same5 .ensures) (c .before .if5 .taken))
+    (c .finish .ensures _)
 
 slice-aggregate-is-same-6 : tie.Need-slice-aggregate-is-same-6
 slice-aggregate-is-same-6 c = search needs
@@ -107,24 +103,29 @@ show-requires c κs = search needs
 returns-6 : tie.Need-returns-6
 unfolding called ascii
 returns-6 c =
-    let e5 = c .before .before .before .before in
-    let e4 = e5 .before .before .before in
-    let e3 = e4 .before .before .before in
-    let e2 = e3 .before .before .before in
-    let e1 = e2 .before .before .before in
-    rw (is (e1 .before .is-same .ensures) (e1 .if1 .left), is (e2 .before .is-same2 .ensures) (e2 .if2 .left), is (e3 .before .is-same3 .ensures) (e3 .if3 .left), is (e4 .before .is-same4 .ensures) (e4 .if4 .left), is (e5 .before .is-same5 .ensures) (e5 .if5 .left), is (c .before .before .is-same6 .ensures) (c .before .if6 .taken))
-    (c .show .ensures)
+    rw (is (c .before .before .before .before .before .before .before .before .before .before .before .before .before .before .before .before .before .is-same .ensures) (c .before .before .before .before .before .before .before .before .before .before .before .before .before .before .before .before .if1 .left), is (c .before .before .before .before .before .before .before .before .before .before .before .before .before .before .is-same2 .ensures) (c .before .before .before .before .before .before .before .before .before .before .before .before .before .if2 .left), is (c .before .before .before .before .before .before .before .before .before .before .before .is-same3 .ensures) (c .before .before .before .before .before .before .before .before .before .before .if3 .left), is (c .before .before .before .before .before .before .before .before .is-same4 .ensures) (c .before .before .before .before .before .before .before .if4 .left), is (c .before .before .before .before .before .is-same5 .ensures) (c .before .before .before .before .if5 .left), is (c .before .before .is-same6 .ensures) (c .before .if6 .taken))
+    (c .show .ensures _)
+
+slice-aggregate-is-same-7 : tie.Need-slice-aggregate-is-same-7
+slice-aggregate-is-same-7 c = search needs
+
+is-same-requires-7 : tie.Need-is-same-requires-7
+is-same-requires-7 c κs = search needs
+
+nodes-requires : tie.Need-nodes-requires
+nodes-requires c κs = search needs
 
 returns-7 : tie.Need-returns-7
 unfolding called ascii
 returns-7 c =
-    let e5 = c .before .before .before in
-    let e4 = e5 .before .before .before in
-    let e3 = e4 .before .before .before in
-    let e2 = e3 .before .before .before in
-    let e1 = e2 .before .before .before in
-    rw (is (e1 .before .is-same .ensures) (e1 .if1 .left), is (e2 .before .is-same2 .ensures) (e2 .if2 .left), is (e3 .before .is-same3 .ensures) (e3 .if3 .left), is (e4 .before .is-same4 .ensures) (e4 .if4 .left), is (e5 .before .is-same5 .ensures) (e5 .if5 .left), is (c .before .is-same6 .ensures) (c .if6 .left))
-    (record { call = refl; within = tt })
+    rw (is (c .before .before .before .before .before .before .before .before .before .before .before .before .before .before .before .before .before .before .before .before .is-same .ensures) (c .before .before .before .before .before .before .before .before .before .before .before .before .before .before .before .before .before .before .before .if1 .left), is (c .before .before .before .before .before .before .before .before .before .before .before .before .before .before .before .before .before .is-same2 .ensures) (c .before .before .before .before .before .before .before .before .before .before .before .before .before .before .before .before .if2 .left), is (c .before .before .before .before .before .before .before .before .before .before .before .before .before .before .is-same3 .ensures) (c .before .before .before .before .before .before .before .before .before .before .before .before .before .if3 .left), is (c .before .before .before .before .before .before .before .before .before .before .before .is-same4 .ensures) (c .before .before .before .before .before .before .before .before .before .before .if4 .left), is (c .before .before .before .before .before .before .before .before .is-same5 .ensures) (c .before .before .before .before .before .before .before .if5 .left), is (c .before .before .before .before .before .is-same6 .ensures) (c .before .before .before .before .if6 .left), is (c .before .before .is-same7 .ensures) (c .before .if7 .taken))
+    (c .nodes .ensures _)
+
+returns-8 : tie.Need-returns-8
+unfolding called ascii
+returns-8 c =
+    rw (is (c .before .before .before .before .before .before .before .before .before .before .before .before .before .before .before .before .before .before .before .is-same .ensures) (c .before .before .before .before .before .before .before .before .before .before .before .before .before .before .before .before .before .before .if1 .left), is (c .before .before .before .before .before .before .before .before .before .before .before .before .before .before .before .before .is-same2 .ensures) (c .before .before .before .before .before .before .before .before .before .before .before .before .before .before .before .if2 .left), is (c .before .before .before .before .before .before .before .before .before .before .before .before .before .is-same3 .ensures) (c .before .before .before .before .before .before .before .before .before .before .before .before .if3 .left), is (c .before .before .before .before .before .before .before .before .before .before .is-same4 .ensures) (c .before .before .before .before .before .before .before .before .before .if4 .left), is (c .before .before .before .before .before .before .before .is-same5 .ensures) (c .before .before .before .before .before .before .if5 .left), is (c .before .before .before .before .is-same6 .ensures) (c .before .before .before .if6 .left), is (c .before .is-same7 .ensures) (c .if7 .left))
+    (record { line = refl; within = tt })
 
 pub called-spec : {M : Type 1} → statement M
 called-spec =
@@ -133,6 +134,7 @@ called-spec =
     slice-aggregate-is-same
     is-same-requires
     start-requires
+    same-length
     returns
     slice-aggregate-is-same-2
     is-same-requires-2
@@ -141,6 +143,7 @@ called-spec =
     slice-aggregate-is-same-3
     is-same-requires-3
     feed-requires
+    same-length-2
     returns-3
     slice-aggregate-is-same-4
     is-same-requires-4
@@ -154,4 +157,8 @@ called-spec =
     is-same-requires-6
     show-requires
     returns-6
-    returns-7)
+    slice-aggregate-is-same-7
+    is-same-requires-7
+    nodes-requires
+    returns-7
+    returns-8)

@@ -1,27 +1,14 @@
-use Prim.Native.Nat.{ℕ, _≤_}
-use mathlib.Core.Path.{_≡_, refl, sym, ap, _∙_}
-use mathlib.Core.List.{List}
-use mathlib.Core.Option.{some}
 use native.Mathlib.Omega.{arith}
+use mathlib.Core.Path.{refl}
+use Rattle.script.specs.Script.{closeOf}
+use Rattle.script.specs.ByteLaws.{upTo-most}
+use Rattle.script.specs.WordLaws.{ended-is, ended-not}
 use borrow.Author.Needs.{needs}
-use Rattle.script.specs.Script.{byteMost}
-use Rattle.script.specs.Code.{wordsFrom, lastNumber, told}
-use Rattle.script.specs.CallLaws.{close-parts, last-most}
 use Rattle.script.proofs.parser.close.Statement.{statement}
 use Rattle.script.proofs.parser.close.Tie as tie
 
--- the words behind the call word
-abbrev words-of : tie.Start → List (List ℕ)
-words-of s = wordsFrom (s .args .line .now) (s .args .from)
-
-number : (c : tie.After-number) → lastNumber byteMost (words-of (c .before .before .before .before)) ≡ some (c .number .given .0 .0)
-number c = sym (c .before .before .last-number .ensures) ∙ ap told (c .number .given .1)
-
-number-most : (c : tie.After-number) → c .number .given .0 .0 ≤ byteMost
-number-most c = last-most byteMost (words-of (c .before .before .before .before)) _ (number c)
-
-last-number-requires : tie.Need-last-number-requires
-last-number-requires c κs = search needs
+number-at-requires : tie.Need-number-at-requires
+number-at-requires c κs = search needs
 
 enum-known-number : tie.Need-enum-known-number
 enum-known-number c = search needs
@@ -30,14 +17,25 @@ enum-told : tie.Need-enum-told
 enum-told c = search needs
 
 returns : tie.Need-returns
-returns c = rw (close-parts _, ← c .before .before .last-number .ensures, c .enum-told .given .1) (record { call = refl; within = tt })
-
-cast-t5 : tie.Need-cast-t5
-cast-t5 c = let h = number-most (c .before) in omega arith
+unfolding closeOf
+returns c = λ b. rw (rw (c .enum-told .given .1) at (c .before .before .number-at .ensures)) (record { line = refl; within = tt })
 
 returns-2 : tie.Need-returns-2
-returns-2 c = rw (close-parts _, number (c .before)) (record { call = refl; within = tt })
+unfolding closeOf
+returns-2 c =
+    let w1 = rw (c .before .before .number .given .1) at (c .before .before .before .before .number-at .ensures) in
+    λ b. rw (w1 .0, w1 .1, ended-not _ _ (c .if1 .taken)) (record { line = refl; within = tt })
+
+cast-t8 : tie.Need-cast-t8
+cast-t8 c =
+    let w1 = rw (c .before .before .number .given .1) at (c .before .before .before .before .number-at .ensures) in
+    omega (arith, upTo-most _ _ _ (w1 .0))
+
+returns-3 : tie.Need-returns-3
+unfolding closeOf
+returns-3 c =
+    let w1 = rw (c .before .before .number .given .1) at (c .before .before .before .before .number-at .ensures) in
+    λ b. rw (w1 .0, w1 .1, ended-is _ _ (c .if1 .left)) (record { line = refl; within = tt })
 
 pub close-spec : {M : Type 1} → statement M
-close-spec =
-    tie.close (tie.spec last-number-requires enum-known-number enum-told returns cast-t5 returns-2)
+close-spec = tie.close (tie.spec number-at-requires enum-known-number enum-told returns returns-2 cast-t8 returns-3)

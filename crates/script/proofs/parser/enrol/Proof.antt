@@ -1,20 +1,12 @@
-use mathlib.Core.Path.{refl, sym, ap, _∙_}
 use native.Mathlib.Omega.{arith}
-use Rattle.script.specs.Script.{byteMost, pairMost}
-use Rattle.script.specs.Code.{told, Numbered}
-use Rattle.script.specs.declared.Taken.the-variants.{Word}
+use mathlib.Core.Path.{refl}
+use Rattle.script.specs.Script.{enrolOf}
 use Rattle.script.specs.ByteLaws.{upTo-most}
-use Rattle.script.specs.CallLaws.{enrol-parts, table-most}
+use Rattle.script.specs.WordLaws.{ended-is, ended-not}
+use Rattle.script.specs.CallLaws.{table-most}
 use borrow.Author.Needs.{needs}
 use Rattle.script.proofs.parser.enrol.Statement.{statement}
 use Rattle.script.proofs.parser.enrol.Tie as tie
-
--- the two numbers
-node : (c : tie.After-node) → Numbered (c .before .before .before .before .args .line .now) (c .before .before .before .before .args .from) byteMost (Word (c .node .given .0 .0) (c .node .given .0 .1 .0))
-node c = rw (c .node .given .1) at (c .before .before .number-at .ensures)
-
-kind : (c : tie.After-kind) → Numbered (c .before .before .before .before .before .before .before .before .args .line .now) (c .before .before .before .before .node .given .0 .1 .0) pairMost (Word (c .kind .given .0 .0) (c .kind .given .0 .1 .0))
-kind c = rw (c .kind .given .1) at (c .before .before .number-at2 .ensures)
 
 number-at-requires : tie.Need-number-at-requires
 number-at-requires c κs = search needs
@@ -26,7 +18,8 @@ enum-told : tie.Need-enum-told
 enum-told c = search needs
 
 returns : tie.Need-returns
-returns c = rw (enrol-parts _, rw (c .enum-told .given .1) at (c .before .before .number-at .ensures)) (record { call = refl; within = tt })
+unfolding enrolOf
+returns c = λ b. rw (rw (c .enum-told .given .1) at (c .before .before .number-at .ensures)) (record { line = refl; within = tt })
 
 number-at-requires-2 : tie.Need-number-at-requires-2
 number-at-requires-2 c κs = search needs
@@ -38,9 +31,10 @@ enum-told-2 : tie.Need-enum-told-2
 enum-told-2 c = search needs
 
 returns-2 : tie.Need-returns-2
+unfolding enrolOf
 returns-2 c =
-    let n = node (c .before .before .before .before) in
-    rw (enrol-parts _, n .0, n .1, rw (c .enum-told2 .given .1) at (c .before .before .number-at2 .ensures)) (record { call = refl; within = tt })
+    let w1 = rw (c .before .before .before .before .node .given .1) at (c .before .before .before .before .before .before .number-at .ensures) in
+    λ b. rw (w1 .0, w1 .1, rw (c .enum-told2 .given .1) at (c .before .before .number-at2 .ensures)) (record { line = refl; within = tt })
 
 table-at-requires : tie.Need-table-at-requires
 table-at-requires c κs = search needs
@@ -52,23 +46,37 @@ enum-told-3 : tie.Need-enum-told-3
 enum-told-3 c = search needs
 
 returns-3 : tie.Need-returns-3
+unfolding enrolOf
 returns-3 c =
-    let n = node (c .before .before .before .before .before .before .before .before) in
-    let k = kind (c .before .before .before .before) in
-    rw (enrol-parts _, n .0, n .1, k .0, k .1, ← c .before .before .table-at .ensures, c .enum-told3 .given .1) (record { call = refl; within = tt })
-
-cast-t11 : tie.Need-cast-t11
-cast-t11 c = omega (arith, upTo-most _ _ _ (node (c .before .before .before .before .before .before .before .before .before) .0))
-
-cast-t12 : tie.Need-cast-t12
-cast-t12 c = omega (arith, upTo-most _ _ _ (kind (c .before .before .before .before .before) .0))
+    let w1 = rw (c .before .before .before .before .before .before .before .before .node .given .1) at (c .before .before .before .before .before .before .before .before .before .before .number-at .ensures) in
+    let w2 = rw (c .before .before .before .before .kind .given .1) at (c .before .before .before .before .before .before .number-at2 .ensures) in
+    λ b. rw (w1 .0, w1 .1, w2 .0, w2 .1, rw (c .enum-told3 .given .1) at (c .before .before .table-at .ensures)) (record { line = refl; within = tt })
 
 returns-4 : tie.Need-returns-4
+unfolding enrolOf
 returns-4 c =
-    let n = node (c .before .before .before .before .before .before .before .before .before) in
-    let k = kind (c .before .before .before .before .before) in
-    let t = sym (c .before .before .before .table-at .ensures) ∙ ap told (c .before .table .given .1) in
-    rw (enrol-parts _, n .0, n .1, k .0, k .1, t) (record { call = refl; within = table-most _ _ t })
+    let w1 = rw (c .before .before .before .before .before .before .before .before .before .before .node .given .1) at (c .before .before .before .before .before .before .before .before .before .before .before .before .number-at .ensures) in
+    let w2 = rw (c .before .before .before .before .before .before .kind .given .1) at (c .before .before .before .before .before .before .before .before .number-at2 .ensures) in
+    let w3 = rw (c .before .before .table .given .1) at (c .before .before .before .before .table-at .ensures) in
+    λ b. rw (w1 .0, w1 .1, w2 .0, w2 .1, w3 .0, w3 .1, ended-not _ _ (c .if1 .taken)) (record { line = refl; within = tt })
+
+cast-t14 : tie.Need-cast-t14
+cast-t14 c =
+    let w1 = rw (c .before .before .before .before .before .before .before .before .before .before .node .given .1) at (c .before .before .before .before .before .before .before .before .before .before .before .before .number-at .ensures) in
+    omega (arith, upTo-most _ _ _ (w1 .0))
+
+cast-t15 : tie.Need-cast-t15
+cast-t15 c =
+    let w1 = rw (c .before .before .before .before .before .before .kind .given .1) at (c .before .before .before .before .before .before .before .before .number-at2 .ensures) in
+    omega (arith, upTo-most _ _ _ (w1 .0))
+
+returns-5 : tie.Need-returns-5
+unfolding enrolOf
+returns-5 c =
+    let w1 = rw (c .before .before .before .before .before .before .before .before .before .before .node .given .1) at (c .before .before .before .before .before .before .before .before .before .before .before .before .number-at .ensures) in
+    let w2 = rw (c .before .before .before .before .before .before .kind .given .1) at (c .before .before .before .before .before .before .before .before .number-at2 .ensures) in
+    let w3 = rw (c .before .before .table .given .1) at (c .before .before .before .before .table-at .ensures) in
+    λ b. rw (w1 .0, w1 .1, w2 .0, w2 .1, w3 .0, w3 .1, ended-is _ _ (c .if1 .left)) (record { line = refl; within = table-most _ _ (w3 .0) })
 
 pub enrol-spec : {M : Type 1} → statement M
 enrol-spec =
@@ -86,6 +94,7 @@ enrol-spec =
     enum-known-table
     enum-told-3
     returns-3
-    cast-t11
-    cast-t12
-    returns-4)
+    returns-4
+    cast-t14
+    cast-t15
+    returns-5)

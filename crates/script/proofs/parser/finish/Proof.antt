@@ -1,19 +1,14 @@
-use mathlib.Core.Path.{refl, sym, ap, _∙_}
 use native.Mathlib.Omega.{arith}
-use Rattle.script.specs.Script.{pairMost, roomMost}
-use Rattle.script.specs.Code.{wordsFrom, told, Numbered}
-use Rattle.script.specs.declared.Taken.the-variants.{Word}
+use mathlib.Core.Path.{refl}
+use Rattle.script.specs.Script.{finishOf}
 use Rattle.script.specs.ByteLaws.{upTo-most}
-use Rattle.script.specs.CallLaws.{finish-parts, last-most}
+use Rattle.script.specs.WordLaws.{ended-is, ended-not}
 use borrow.Author.Needs.{needs}
 use Rattle.script.proofs.parser.finish.Statement.{statement}
 use Rattle.script.proofs.parser.finish.Tie as tie
 
-session : (c : tie.After-session) → Numbered (c .before .before .before .before .args .line .now) (c .before .before .before .before .args .from) pairMost (Word (c .session .given .0 .0) (c .session .given .0 .1 .0))
-session c = rw (c .session .given .1) at (c .before .before .number-at .ensures)
-
-number-at-requires : tie.Need-number-at-requires
-number-at-requires c κs = search needs
+session-at-requires : tie.Need-session-at-requires
+session-at-requires c κs = search needs
 
 enum-known-session : tie.Need-enum-known-session
 enum-known-session c = search needs
@@ -22,10 +17,11 @@ enum-told : tie.Need-enum-told
 enum-told c = search needs
 
 returns : tie.Need-returns
-returns c = rw (finish-parts _, rw (c .enum-told .given .1) at (c .before .before .number-at .ensures)) (record { call = refl; within = tt })
+unfolding finishOf
+returns c = λ b. rw (rw (c .enum-told .given .1) at (c .before .before .session-at .ensures)) (record { line = refl; within = tt })
 
-last-number-requires : tie.Need-last-number-requires
-last-number-requires c κs = search needs
+number-at-requires : tie.Need-number-at-requires
+number-at-requires c κs = search needs
 
 enum-known-room : tie.Need-enum-known-room
 enum-known-room c = search needs
@@ -34,31 +30,42 @@ enum-told-2 : tie.Need-enum-told-2
 enum-told-2 c = search needs
 
 returns-2 : tie.Need-returns-2
+unfolding finishOf
 returns-2 c =
-    let s = session (c .before .before .before .before) in
-    rw (finish-parts _, s .0, s .1, ← c .before .before .last-number .ensures, c .enum-told2 .given .1) (record { call = refl; within = tt })
-
-cast-t8 : tie.Need-cast-t8
-cast-t8 c = omega (arith, upTo-most _ _ _ (session (c .before .before .before .before .before) .0))
+    let w1 = rw (c .before .before .before .before .session .given .1) at (c .before .before .before .before .before .before .session-at .ensures) in
+    λ b. rw (w1 .0, w1 .1, rw (c .enum-told2 .given .1) at (c .before .before .number-at .ensures)) (record { line = refl; within = tt })
 
 returns-3 : tie.Need-returns-3
+unfolding finishOf
 returns-3 c =
-    let s = session (c .before .before .before .before .before) in
-    let r = sym (c .before .before .before .last-number .ensures) ∙ ap told (c .before .room .given .1) in
-    rw (finish-parts _, s .0, s .1, r)
-    (record { call = refl; within = last-most roomMost (wordsFrom (c .before .before .before .before .before .before .before .before .before .args .line .now) (c .before .before .before .before .before .session .given .0 .1 .0)) _ r })
+    let w1 = rw (c .before .before .before .before .before .before .session .given .1) at (c .before .before .before .before .before .before .before .before .session-at .ensures) in
+    let w2 = rw (c .before .before .room .given .1) at (c .before .before .before .before .number-at .ensures) in
+    λ b. rw (w1 .0, w1 .1, w2 .0, w2 .1, ended-not _ _ (c .if1 .taken)) (record { line = refl; within = tt })
+
+cast-t11 : tie.Need-cast-t11
+cast-t11 c =
+    let w1 = rw (c .before .before .before .before .before .before .session .given .1) at (c .before .before .before .before .before .before .before .before .session-at .ensures) in
+    omega (arith, w1 .2)
+
+returns-4 : tie.Need-returns-4
+unfolding finishOf
+returns-4 c =
+    let w1 = rw (c .before .before .before .before .before .before .session .given .1) at (c .before .before .before .before .before .before .before .before .session-at .ensures) in
+    let w2 = rw (c .before .before .room .given .1) at (c .before .before .before .before .number-at .ensures) in
+    λ b. rw (w1 .0, w1 .1, w2 .0, w2 .1, ended-is _ _ (c .if1 .left)) (record { line = refl; within = upTo-most _ _ _ (w2 .0) })
 
 pub finish-spec : {M : Type 1} → statement M
 finish-spec =
     tie.close
     (tie.spec
-    number-at-requires
+    session-at-requires
     enum-known-session
     enum-told
     returns
-    last-number-requires
+    number-at-requires
     enum-known-room
     enum-told-2
     returns-2
-    cast-t8
-    returns-3)
+    returns-3
+    cast-t11
+    returns-4)

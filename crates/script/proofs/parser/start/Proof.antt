@@ -1,15 +1,10 @@
-use mathlib.Core.Path.{refl, sym, ap, _∙_}
-use Rattle.script.specs.Code.{told, BytesAt}
-use Rattle.script.specs.declared.Taken.the-variants.{Word}
-use Rattle.script.specs.ByteLaws.{bytes-is, bytes-not}
-use Rattle.script.specs.CallLaws.{start-parts, table-most}
+use mathlib.Core.Path.{refl}
+use Rattle.script.specs.Script.{startOf}
+use Rattle.script.specs.WordLaws.{ended-is, ended-not}
+use Rattle.script.specs.CallLaws.{table-most}
 use borrow.Author.Needs.{needs}
 use Rattle.script.proofs.parser.start.Statement.{statement}
 use Rattle.script.proofs.parser.start.Tie as tie
-
--- the word of bytes
-word : (c : tie.After-len) → BytesAt (c .before .before .before .before .args .line .now) (c .before .before .before .before .args .from) (Word (c .len .given .0 .0) (c .len .given .0 .1 .0))
-word c = rw (c .len .given .1) at (c .before .before .bytes-at .ensures)
 
 bytes-at-requires : tie.Need-bytes-at-requires
 bytes-at-requires c κs = search needs
@@ -20,8 +15,12 @@ enum-known-len c = search needs
 enum-told : tie.Need-enum-told
 enum-told c = search needs
 
+same-length : tie.Need-same-length
+same-length c = search needs
+
 returns : tie.Need-returns
-returns c = rw (start-parts _, bytes-not _ (rw (c .enum-told .given .1) at (c .before .before .bytes-at .ensures))) (record { call = refl; within = tt })
+unfolding startOf
+returns c = rw (rw (c .enum-told .given .1) at (c .before .before .before .before .bytes-at .ensures)) (record { line = refl; within = tt })
 
 table-at-requires : tie.Need-table-at-requires
 table-at-requires c κs = search needs
@@ -32,16 +31,34 @@ enum-known-table c = search needs
 enum-told-2 : tie.Need-enum-told-2
 enum-told-2 c = search needs
 
+same-length-2 : tie.Need-same-length-2
+same-length-2 c = search needs
+
 returns-2 : tie.Need-returns-2
+unfolding startOf
 returns-2 c =
-    let b = word (c .before .before .before .before) in
-    rw (start-parts _, bytes-is _ (b .0), b .1, ← c .before .before .table-at .ensures, c .enum-told2 .given .1) (record { call = refl; within = tt })
+    let w1 = rw (c .before .before .before .before .len .given .1) at (c .before .before .before .before .before .before .before .before .bytes-at .ensures) in
+    rw (w1 .0, w1 .2, rw (c .enum-told2 .given .1) at (c .before .before .table-at .ensures)) (record { line = refl; within = tt })
+
+same-length-3 : tie.Need-same-length-3
+same-length-3 c = search needs
 
 returns-3 : tie.Need-returns-3
+unfolding startOf
 returns-3 c =
-    let b = word (c .before .before .before .before .before) in
-    let t = sym (c .before .before .before .table-at .ensures) ∙ ap told (c .before .table .given .1) in
-    rw (start-parts _, bytes-is _ (b .0), b .1, t) (record { call = rw (b .2); within = (b .3, rw (b .2) (b .0), table-most _ _ t) })
+    let w1 = rw (c .before .before .before .before .before .before .len .given .1) at (c .before .before .before .before .before .before .before .before .before .before .bytes-at .ensures) in
+    let w2 = rw (c .before .before .table .given .1) at (c .before .before .before .before .table-at .ensures) in
+    rw (w1 .0, w1 .2, w2 .0, w2 .1, ended-not _ _ (c .if1 .taken)) (record { line = refl; within = tt })
+
+same-length-4 : tie.Need-same-length-4
+same-length-4 c = search needs
+
+returns-4 : tie.Need-returns-4
+unfolding startOf
+returns-4 c =
+    let w1 = rw (c .before .before .before .before .before .before .len .given .1) at (c .before .before .before .before .before .before .before .before .before .before .bytes-at .ensures) in
+    let w2 = rw (c .before .before .table .given .1) at (c .before .before .before .before .table-at .ensures) in
+    rw (w1 .0, w1 .2, w2 .0, w2 .1, ended-is _ _ (c .if1 .left)) (record { line = refl; within = (w1 .1, table-most _ _ (w2 .0)) })
 
 pub start-spec : {M : Type 1} → statement M
 start-spec =
@@ -50,9 +67,14 @@ start-spec =
     bytes-at-requires
     enum-known-len
     enum-told
+    same-length
     returns
     table-at-requires
     enum-known-table
     enum-told-2
+    same-length-2
     returns-2
-    returns-3)
+    same-length-3
+    returns-3
+    same-length-4
+    returns-4)

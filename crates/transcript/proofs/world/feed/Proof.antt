@@ -1,28 +1,25 @@
-use native.Mathlib.Omega.{arith}
-use Rattle.transcript.proofs.world.Laws.{half, decoded-within, decoded-part}
+use mathlib.Core.Path.{_∙_}
+use lib.ListN.{length, length-replicate}
+use Rattle.transcript.specs.Replies.{filler}
+use Rattle.transcript.proofs.world.Laws.{filled, fill-whole, filled-filler, plays-feed}
 use borrow.Author.Needs.{needs}
 use Rattle.transcript.proofs.world.feed.Statement.{statement}
 use Rattle.transcript.proofs.world.feed.Tie as tie
 
-slice-aggregate-decode : tie.Need-slice-aggregate-decode
-slice-aggregate-decode c = search needs
+fill-requires : tie.Need-fill-requires
+fill-requires c κs = search needs
 
-decode-requires : tie.Need-decode-requires
-decode-requires c κs = search needs
+record-of-requires : tie.Need-record-of-requires
+record-of-requires c κs = search needs
 
-sub-feed-bytes : tie.Need-sub-feed-bytes
-sub-feed-bytes c = search needs
+feed-by-value-requires : tie.Need-feed-by-value-requires
+feed-by-value-requires c κs = search needs
 
-part-feed-bytes-start : tie.Need-part-feed-bytes-start
-part-feed-bytes-start c = search needs
+with-record-requires : tie.Need-with-record-requires
+with-record-requires c κs = search needs
 
-part-feed-bytes-end : tie.Need-part-feed-bytes-end
-part-feed-bytes-end c =
-    let h = decoded-within _ (c .before .before .before .before .before .before .before .before .args .word .now) _ _ (half (c .before .before .before .before .before .before .before .before .args .word .now) (c .before .before .before .before .before .before .before .before .pre .0)) (c .before .before .before .decode .ensures) in
-    omega arith
-
-feed-bytes-requires : tie.Need-feed-bytes-requires
-feed-bytes-requires c κs = search needs
+feed-line-requires : tie.Need-feed-line-requires
+feed-line-requires c κs = search needs
 
 same-length : tie.Need-same-length
 same-length c = search needs
@@ -30,21 +27,27 @@ same-length c = search needs
 same-length-2 : tie.Need-same-length-2
 same-length-2 c = search needs
 
+same-length-3 : tie.Need-same-length-3
+same-length-3 c = search needs
+
 returns : tie.Need-returns
 returns c =
-    let d = decoded-part _ (c .before .before .before .before .before .before .before .before .before .before .before .before .before .before .before .args .word .now) _ _ (half (c .before .before .before .before .before .before .before .before .before .before .before .before .before .before .before .args .word .now) (c .before .before .before .before .before .before .before .before .before .before .before .before .before .before .before .pre .0)) (c .before .before .before .before .before .before .before .before .before .before .decode .ensures) in
-    rw d at (c .before .before .before .before .feed-bytes .ensures)
+    let room = c .before .before .before .before .before .before .before .before .before .before .before .before .before .before .before .before .before .before .before .before .before .before .before .before .args .room .now in
+    let f = rw (c .before .before .before .before .before .before .before .before .before .before .before .before .before .before .before .before .before .fill .ensures ∙ fill-whole room, c .before .before .before .before .before .before .before .before .before .before .before .before .before .record-of .ensures) at (c .before .before .before .before .before .before .before .before .before .before .before .feed-by-value .ensures) in
+    rw (c .before .before .before .before .before .with-record .ensures)
+    (rw (length-replicate (length room) filler) at
+    (plays-feed (filled room) (filled-filler room) (c .before .before .before .before .before .before .before .before .before .before .before .before .before .before .before .before .before .before .before .before .before .before .before .before .args .run) _ _ _ _ _ _ _ _ f (c .before .before .feed-line .ensures)))
 
 pub feed-spec : {M : Type 1} → statement M
 feed-spec =
     tie.close
     (tie.spec
-    slice-aggregate-decode
-    decode-requires
-    sub-feed-bytes
-    part-feed-bytes-start
-    part-feed-bytes-end
-    feed-bytes-requires
+    fill-requires
+    record-of-requires
+    feed-by-value-requires
+    with-record-requires
+    feed-line-requires
     same-length
     same-length-2
+    same-length-3
     returns)
