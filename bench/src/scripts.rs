@@ -45,7 +45,7 @@ pub enum Kind {
     Wire,
     /// Host calls and refused calls.
     Calls,
-    /// Bad lines.
+    /// Remarks and bad lines.
     Bad,
     /// All of these.
     Mixed,
@@ -292,8 +292,6 @@ mod tests {
         }
         let rows = reach.missing_rows();
         let others = reach.missing();
-        assert!(others
-            .iter()
-            .all(|missing| rows.contains(&missing.as_str())));
+        assert!(others.iter().all(|missing| rows.contains(missing)));
     }
 }

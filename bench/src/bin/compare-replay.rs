@@ -11,7 +11,7 @@ use std::process::ExitCode;
 use bench::arguments::{self, Arguments};
 use bench::difference::{self, quoted, Fault};
 use bench::reach::Reach;
-use bench::replay::lines::Lines;
+use bench::replay::lines;
 use bench::replay::Replay;
 use bench::scripts::{Kind, Name};
 use bench::stand::{Feed, Stand};
@@ -149,15 +149,18 @@ fn show_call(script: &[u8], expected: &[u8], got: &[u8]) -> io::Result<()> {
         .take_while(|(one, other)| one == other)
         .count();
     let mut replay = Replay::new();
-    let mut lines = Lines::new(script);
-    let (mut line, mut answers, mut number) = (Vec::new(), Vec::new(), 0);
-    while answers.len() <= same && lines.next(&mut line)? {
+    let (mut last, mut answers, mut number) = (Vec::new(), Vec::new(), 0);
+    for line in lines::all(script) {
+        if answers.len() > same {
+            break;
+        }
         replay.line(&line, &mut answers);
         number += 1;
+        last = line;
     }
     println!(
         "  call      line {number} of the script: {}",
-        quoted(Some(&line))
+        quoted(Some(&last))
     );
     difference::show_line(expected, got);
     Ok(())
