@@ -51,6 +51,15 @@ pub fn request(writer: &mut Writer, line: u8, taste: Taste) -> Request {
     }
 }
 
+/// A request that sets something of a node, mostly its name.
+pub fn setting(writer: &mut Writer) -> Request {
+    match writer.random.below(6) {
+        0 => variation(writer),
+        1 => order(writer),
+        _ => name(writer),
+    }
+}
+
 /// The password, or one that differs in one byte, mostly behind a zero.
 fn enter(writer: &mut Writer) -> Request {
     let mut password = writer.replay.hub.password.to_vec();
