@@ -86,6 +86,17 @@ fn sessions_have_labels() {
     assert!(answer.starts_with(expected), "{answer}");
 }
 
+/// The page's script and its answers stand in its first two blocks.
+#[test]
+fn the_worked_example_is_as_the_page_has_it() {
+    let page = include_str!("../../../docs/REPLAY.md");
+    let blocks: Vec<_> = page.split("```\n").skip(1).step_by(2).collect();
+    let [script, answers] = blocks[..] else {
+        panic!("the page has a script and its answers");
+    };
+    assert_eq!(text(script.as_bytes()), answers);
+}
+
 /// The table of a node with this name.
 fn listed(name: &[u8]) -> Vec<u8> {
     let mut named = vec![7];
