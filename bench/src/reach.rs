@@ -161,7 +161,7 @@ pub struct Reach {
     sent: BTreeSet<Sent>,
     unknown: BTreeSet<u16>,
     pub scripts: u64,
-    pub calls: u64,
+    pub lines: u64,
     pub bytes: u64,
 }
 
@@ -173,7 +173,7 @@ impl Default for Reach {
             sent: BTreeSet::new(),
             unknown: BTreeSet::new(),
             scripts: 0,
-            calls: 0,
+            lines: 0,
             bytes: 0,
         }
     }
@@ -210,7 +210,7 @@ impl Reach {
         for line in lines::all(script) {
             watch.look(&replay);
             last = replay.line(&line, &mut answers);
-            self.calls += 1;
+            self.lines += 1;
             self.count_line(&line, &last);
             if let (Ok(call), told) = (Call::parse(&line), &last) {
                 self.count_lent(&call);
@@ -416,7 +416,7 @@ impl Reach {
         self.sent.extend(&other.sent);
         self.unknown.extend(&other.unknown);
         self.scripts += other.scripts;
-        self.calls += other.calls;
+        self.lines += other.lines;
         self.bytes += other.bytes;
     }
 
@@ -543,8 +543,8 @@ impl fmt::Display for Reach {
         writeln!(out, "{:>9}  unknown commands", self.unknown.len())?;
         writeln!(
             out,
-            "{:>9}  calls in {} scripts of {} bytes",
-            self.calls, self.scripts, self.bytes
+            "{:>9}  lines in {} scripts of {} bytes",
+            self.lines, self.scripts, self.bytes
         )
     }
 }
