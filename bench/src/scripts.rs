@@ -30,6 +30,8 @@ const CALLS: (usize, usize) = (100, 500);
 const ENTRIES_EACH: usize = 10;
 const UNKNOWN_EACH: usize = 60;
 const UNKNOWN_SCRIPTS: usize = 20;
+/// One script of bad lines in so many has a CR before each LF.
+const RETURNS_ONCE_IN: usize = 16;
 
 /// What a script is about.
 #[derive(Clone, Copy, Debug, PartialEq, Eq)]
@@ -125,6 +127,9 @@ impl Name {
             kind => drawn(&mut writer, kind),
         }
         host::end(&mut writer);
+        if self.kind == Kind::Bad && writer.random.once_in(RETURNS_ONCE_IN) {
+            return bad::with_returns(&writer.script);
+        }
         writer.script
     }
 }

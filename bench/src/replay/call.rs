@@ -11,6 +11,11 @@ pub const LINE_MOST: usize = 40000;
 const DIGITS_MOST: usize = 5;
 /// The digits of a session.
 const SESSION_DIGITS: usize = 4;
+/// The greatest numbers at their places; rooms and tables have the sizes of
+/// their buffers.
+const NODE: usize = 255;
+const TYPE: usize = 65535;
+const LINE: usize = 255;
 
 #[derive(Clone, Debug, PartialEq, Eq)]
 pub enum Call {
@@ -139,17 +144,24 @@ impl Place {
 /// The call words with what stands behind them.
 pub const FORMS: [(&str, &[Place]); 7] = [
     ("start", &[Place::Bytes, Place::Table]),
-    ("enrol", &[NODE, TYPE, Place::Table]),
-    ("feed", &[LINE, ROOM, Place::Bytes, Place::Table]),
-    ("close", &[LINE]),
-    ("finish", &[Place::Session, ROOM]),
+    (
+        "enrol",
+        &[Place::Number(NODE), Place::Number(TYPE), Place::Table],
+    ),
+    (
+        "feed",
+        &[
+            Place::Number(LINE),
+            Place::Number(ROOM_BUFFER),
+            Place::Bytes,
+            Place::Table,
+        ],
+    ),
+    ("close", &[Place::Number(LINE)]),
+    ("finish", &[Place::Session, Place::Number(ROOM_BUFFER)]),
     ("show", &[]),
     ("table", &[]),
 ];
-const NODE: Place = Place::Number(255);
-const TYPE: Place = Place::Number(65535);
-const LINE: Place = Place::Number(255);
-const ROOM: Place = Place::Number(ROOM_BUFFER);
 
 /// All bad words that there can be, by call, number and reason.
 pub fn bad_words() -> Vec<BadWord> {
@@ -197,18 +209,18 @@ impl Call {
                 table: words.table()?,
             },
             "enrol" => Call::Enrol {
-                node: words.number(255)? as u8,
-                kind: words.number(65535)? as u16,
+                node: words.number(NODE)? as u8,
+                kind: words.number(TYPE)? as u16,
                 table: words.table()?,
             },
             "feed" => Call::Feed {
-                line: words.number(255)? as u8,
+                line: words.number(LINE)? as u8,
                 room: words.number(ROOM_BUFFER)?,
                 bytes: words.bytes()?,
                 table: words.table()?,
             },
             "close" => Call::Close {
-                line: words.number(255)? as u8,
+                line: words.number(LINE)? as u8,
             },
             "finish" => Call::Finish {
                 session: words.session()?,

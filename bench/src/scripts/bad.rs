@@ -50,6 +50,12 @@ fn capture(writer: &mut Writer) {
     }
 }
 
+/// A script with a CR before each LF.
+pub fn with_returns(script: &[u8]) -> Vec<u8> {
+    let lines: Vec<_> = script.split(|&byte| byte == b'\n').collect();
+    lines.join(&b"\r\n"[..])
+}
+
 /// A line with a bad word. All kinds and places come equally often.
 pub fn bad_word(writer: &mut Writer) {
     let word = writer.random.pick(&bad_words());
@@ -123,8 +129,7 @@ fn spoil(word: &mut Vec<u8>, why: Why, random: &mut Random) {
         Why::NoNumber => *word = random.pick(&NO_NUMBERS).to_vec(),
         Why::LeadingZero => word.insert(0, b'0'),
         Why::ManyDigits => *word = random.pick(&MANY_DIGITS).to_vec(),
-        // Above 65535, so out of every range.
-        Why::OutOfRange => *word = out_of_range(word, random),
+        Why::OutOfRange => *word = out_of_range(random),
         Why::NoHexadecimal => spoil_digit(word, random),
         Why::OddDigits if word == b"-" => *word = b"0".to_vec(),
         Why::OddDigits => {
@@ -139,15 +144,15 @@ fn spoil(word: &mut Vec<u8>, why: Why, random: &mut Random) {
     }
 }
 
-/// The numbers next to a limit are good at some places, so that they are
-/// taken there.
-fn out_of_range(word: &[u8], random: &mut Random) -> Vec<u8> {
+/// A number above every limit, or one beside a limit, which is good at some
+/// places.
+fn out_of_range(random: &mut Random) -> Vec<u8> {
     let near: [&[u8]; 6] = [b"255", b"256", b"8192", b"8193", b"16384", b"16385"];
-    let far: [&[u8]; 4] = [b"65536", b"65537", b"70000", b"99999"];
-    if random.once_in(2) && word.len() <= 5 {
+    let above: [&[u8]; 4] = [b"65536", b"65537", b"70000", b"99999"];
+    if random.once_in(2) {
         random.pick(&near).to_vec()
     } else {
-        random.pick(&far).to_vec()
+        random.pick(&above).to_vec()
     }
 }
 
