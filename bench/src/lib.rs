@@ -7,6 +7,7 @@
 pub mod arguments;
 pub mod difference;
 pub mod directory;
+pub mod drive;
 pub mod generate;
 pub mod hub;
 pub mod input;

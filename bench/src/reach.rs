@@ -1,23 +1,23 @@
 //! What scripts reach: calls, refusals, statuses and bad lines, counted by
 //! the model while it answers.
 
-use std::collections::{BTreeSet, HashMap};
+use std::collections::{BTreeMap, BTreeSet, HashMap};
 use std::fmt;
 
 use crate::directory::{self, Entry, ENTRIES};
-use crate::hub::nodes::TABLE;
+use crate::hub::nodes::{self, NAME, TABLE};
 use crate::hub::sessions::SLOTS;
 use crate::hub::LINES;
 use crate::outcome::{Outcome, DATA_MOST};
-use crate::replay::call::{Bad, Call};
-use crate::replay::lines::Lines;
-use crate::replay::{mode_name, Replay, Told};
+use crate::replay::call::{bad_words, Bad, BadWord, Call, LINE_MOST};
+use crate::replay::lines;
+use crate::replay::{mode_name, Replay, Told, ROOM_BUFFER};
 
 /// Unknown numbers that must be sent in all.
 pub const UNKNOWN_LEAST: usize = 1000;
 
-/// Everything that is counted, bad lines apart.
-const ROWS: [&str; 105] = [
+/// Everything that is counted, bad words apart.
+const ROWS: [&str; 131] = [
     "start done",
     "start refused 7",
     "start refused 14",
@@ -49,7 +49,8 @@ const ROWS: [&str; 105] = [
     "room 0",
     "room 511",
     "room 512",
-    "room 1024",
+    "room above 512",
+    "room 8192",
     "node 199 enrolled",
     "node 200 refused",
     "feed: no bytes",
@@ -119,10 +120,35 @@ const ROWS: [&str; 105] = [
     "slot again after remove",
     "slot again after virgin",
     "slot again after start",
+    "show: no session",
+    "show: all eight slots",
     "show: plain, bytes held",
     "show: escaped",
     "show: skip1",
     "show: skip2",
+    "table: no node",
+    "table: all nodes",
+    "table: no name",
+    "table: name of 64 bytes",
+    "table: bytes behind the name's zero",
+    "table: quote",
+    "table: backslash",
+    "table: byte below 20",
+    "table: byte 7F",
+    "table: byte above 7F",
+    "line: empty",
+    "line: # alone",
+    "line: remark",
+    "line: remark with other bytes than text",
+    "line: 40000 bytes, a call",
+    "line: 40000 bytes, a bad word",
+    "line: 40000 bytes, a remark",
+    "line: too long",
+    "line: too long, a remark",
+    "last line without LF: a call",
+    "last line without LF: a bad word",
+    "last line without LF: too long",
+    "last line without LF: a remark",
 ];
 
 /// A command sent with so many data bytes, before or after login.
@@ -131,29 +157,26 @@ type Sent = (u16, usize, bool);
 #[derive(Clone)]
 pub struct Reach {
     counts: HashMap<&'static str, u64>,
+    bad_words: BTreeMap<BadWord, u64>,
     sent: BTreeSet<Sent>,
     unknown: BTreeSet<u16>,
     pub scripts: u64,
-    pub calls: u64,
+    pub lines: u64,
     pub bytes: u64,
 }
 
 impl Default for Reach {
     fn default() -> Self {
         Reach {
-            counts: rows().map(|row| (row, 0)).collect(),
+            counts: ROWS.into_iter().map(|row| (row, 0)).collect(),
+            bad_words: bad_words().into_iter().map(|word| (word, 0)).collect(),
             sent: BTreeSet::new(),
             unknown: BTreeSet::new(),
             scripts: 0,
-            calls: 0,
+            lines: 0,
             bytes: 0,
         }
     }
-}
-
-/// All rows in the order in which they are shown.
-fn rows() -> impl Iterator<Item = &'static str> {
-    ROWS.into_iter().chain(Bad::ALL.map(Bad::name))
 }
 
 /// The data lengths to try with a command: its least and its greatest, and
@@ -183,21 +206,20 @@ impl Reach {
         let mut replay = Replay::new();
         let mut watch = Watch::default();
         let mut answers = Vec::new();
-        let mut line = Vec::new();
-        let mut lines = Lines::new(script);
-        while lines.next(&mut line).expect("memory is read") {
+        let mut last = Told::Remark;
+        for line in lines::all(script) {
             watch.look(&replay);
-            let told = replay.line(&line, &mut answers);
-            self.calls += 1;
-            match (Call::parse(&line), &told) {
-                (_, Told::Bad(bad)) => self.count(bad.name()),
-                (Ok(call), told) => {
-                    self.count_lent(&call);
-                    self.count_told(&call, told);
-                    self.count_state(&call, told, &replay, &mut watch);
-                }
-                (Err(_), _) => {}
+            last = replay.line(&line, &mut answers);
+            self.lines += 1;
+            self.count_line(&line, &last);
+            if let (Ok(call), told) = (Call::parse(&line), &last) {
+                self.count_lent(&call);
+                self.count_told(&call, told);
+                self.count_state(&call, told, &replay, &mut watch);
             }
+        }
+        if !script.is_empty() && !script.ends_with(b"\n") {
+            self.count(&format!("last line without LF: {}", sort(&last)));
         }
         self.scripts += 1;
         self.bytes += script.len() as u64;
@@ -208,6 +230,29 @@ impl Reach {
         match self.counts.get_mut(row) {
             Some(count) => *count += 1,
             None => panic!("{row} is no row"),
+        }
+    }
+
+    /// Counts what shows in the line itself.
+    fn count_line(&mut self, line: &[u8], told: &Told) {
+        if line.len() == LINE_MOST {
+            self.count(&format!("line: 40000 bytes, {}", sort(told)));
+        }
+        let text = line.iter().all(|byte| (b' '..=b'~').contains(byte));
+        match told {
+            Told::Bad(Bad::Word(word)) => match self.bad_words.get_mut(word) {
+                Some(count) => *count += 1,
+                None => panic!("{word:?} is not listed"),
+            },
+            Told::Bad(Bad::TooLong) if line.starts_with(b"#") => {
+                self.count("line: too long, a remark");
+            }
+            Told::Bad(Bad::TooLong) => self.count("line: too long"),
+            Told::Remark if line.is_empty() => self.count("line: empty"),
+            Told::Remark if line == b"#" => self.count("line: # alone"),
+            Told::Remark if text => self.count("line: remark"),
+            Told::Remark => self.count("line: remark with other bytes than text"),
+            _ => {}
         }
     }
 
@@ -227,11 +272,12 @@ impl Reach {
             }
         }
         if let Call::Feed { room, .. } | Call::Finish { room, .. } = call {
-            match room {
+            match *room {
                 0 => self.count("room 0"),
                 511 => self.count("room 511"),
                 512 => self.count("room 512"),
-                1024 => self.count("room 1024"),
+                ROOM_BUFFER => self.count("room 8192"),
+                513.. => self.count("room above 512"),
                 _ => {}
             }
         }
@@ -243,11 +289,11 @@ impl Reach {
                 let numbers: Vec<_> = refusals.all().iter().map(u32::to_string).collect();
                 self.count(&format!(
                     "{} refused {}",
-                    word(call),
+                    call.word(),
                     numbers.join(" before ")
                 ));
             }
-            Told::Done | Told::Finished(_) => self.count(&format!("{} done", word(call))),
+            Told::Done | Told::Finished(_) => self.count(&format!("{} done", call.word())),
             Told::Fed(fed) => {
                 for remark in &fed.remarks {
                     self.count(remark);
@@ -263,7 +309,7 @@ impl Reach {
                     Some(Outcome::Frame { .. }) => {}
                 }
             }
-            Told::Bad(_) | Told::Shown => {}
+            Told::Remark | Told::Bad(_) | Told::Shown | Told::Listed => {}
         }
     }
 
@@ -280,6 +326,7 @@ impl Reach {
                 _,
             ) => self.count("node 200 refused"),
             (Call::Show, _) => self.count_shown(after),
+            (Call::Table, _) => self.count_listed(after.table()),
             (Call::Feed { line, bytes, .. }, Told::Fed(fed)) => {
                 let line = usize::from(*line);
                 if bytes.is_empty() {
@@ -303,12 +350,51 @@ impl Reach {
     }
 
     fn count_shown(&mut self, replay: &Replay) {
+        match replay.hub.sessions.open().count() {
+            0 => self.count("show: no session"),
+            SLOTS => self.count("show: all eight slots"),
+            _ => {}
+        }
         for record in &replay.records {
             match mode_name(record.mode()) {
                 "plain" if record.held().is_empty() => {}
                 "plain" => self.count("show: plain, bytes held"),
                 other => self.count(&format!("show: {other}")),
             }
+        }
+    }
+
+    fn count_listed(&mut self, table: &[u8]) {
+        let used = nodes::all_in_use(table);
+        match used.len() {
+            0 => self.count("table: no node"),
+            nodes::NODES => self.count("table: all nodes"),
+            _ => {}
+        }
+        for node in used {
+            self.count_name(&nodes::record(table, node)[NAME]);
+        }
+    }
+
+    fn count_name(&mut self, name: &[u8]) {
+        let end = name.iter().position(|&byte| byte == 0);
+        let (text, behind) = name.split_at(end.unwrap_or(name.len()));
+        let has = |holds: fn(u8) -> bool| text.iter().any(|&byte| holds(byte));
+        let rows = [
+            ("table: no name", text.is_empty()),
+            ("table: name of 64 bytes", end.is_none()),
+            (
+                "table: bytes behind the name's zero",
+                behind.iter().any(|&byte| byte != 0),
+            ),
+            ("table: quote", has(|byte| byte == b'"')),
+            ("table: backslash", has(|byte| byte == b'\\')),
+            ("table: byte below 20", has(|byte| byte < 0x20)),
+            ("table: byte 7F", has(|byte| byte == 0x7F)),
+            ("table: byte above 7F", has(|byte| byte > 0x7F)),
+        ];
+        for (row, _) in rows.into_iter().filter(|(_, holds)| *holds) {
+            self.count(row);
         }
     }
 
@@ -324,21 +410,29 @@ impl Reach {
         for (row, count) in &other.counts {
             *self.counts.entry(row).or_default() += count;
         }
+        for (word, count) in &other.bad_words {
+            *self.bad_words.entry(*word).or_default() += count;
+        }
         self.sent.extend(&other.sent);
         self.unknown.extend(&other.unknown);
         self.scripts += other.scripts;
-        self.calls += other.calls;
+        self.lines += other.lines;
         self.bytes += other.bytes;
     }
 
     /// The rows that were never reached.
-    pub fn missing_rows(&self) -> Vec<&'static str> {
-        rows().filter(|row| self.counts[row] == 0).collect()
+    pub fn missing_rows(&self) -> Vec<String> {
+        let rows = ROWS.iter().filter(|row| self.counts[*row] == 0);
+        let words = self.bad_words.iter().filter(|(_, count)| **count == 0);
+        let named = |(word, _): (&BadWord, _)| format!("{}: {}", place(word), word.why.name());
+        rows.map(ToString::to_string)
+            .chain(words.map(named))
+            .collect()
     }
 
     /// All that was never reached.
     pub fn missing(&self) -> Vec<String> {
-        let mut missing: Vec<String> = self.missing_rows().into_iter().map(String::from).collect();
+        let mut missing = self.missing_rows();
         for (number, data, login) in to_send().filter(|sent| !self.sent.contains(sent)) {
             let when = if login { "after" } else { "before" };
             missing.push(format!("{number:04X} with {data} data bytes {when} login"));
@@ -350,14 +444,21 @@ impl Reach {
     }
 }
 
-fn word(call: &Call) -> &'static str {
-    match call {
-        Call::Start { .. } => "start",
-        Call::Enrol { .. } => "enrol",
-        Call::Feed { .. } => "feed",
-        Call::Close { .. } => "close",
-        Call::Finish { .. } => "finish",
-        Call::Show => "show",
+/// What a line is: a call, a remark, or bad.
+fn sort(told: &Told) -> &'static str {
+    match told {
+        Told::Remark => "a remark",
+        Told::Bad(Bad::TooLong) => "too long",
+        Told::Bad(Bad::Word(_)) => "a bad word",
+        _ => "a call",
+    }
+}
+
+/// Where a bad word stands.
+fn place(word: &BadWord) -> String {
+    match word.call {
+        "" => format!("bad word {}", word.number),
+        call => format!("bad word {} of {call}", word.number),
     }
 }
 
@@ -412,15 +513,26 @@ fn freer(call: &Call, told: &Told) -> &'static str {
             "virgin"
         }
         Told::Fed(_) => "remove",
-        _ => word(call),
+        _ => call.word(),
     }
 }
 
-/// A line for each row, and what was sent of the directory.
+/// A line for each row and for each place of a bad word, and what was sent of the directory.
 impl fmt::Display for Reach {
     fn fmt(&self, out: &mut fmt::Formatter) -> fmt::Result {
-        for row in rows() {
+        for row in ROWS {
             writeln!(out, "{:>9}  {row}", self.counts[row])?;
+        }
+        let mut places: BTreeMap<(&str, usize), Vec<(&BadWord, u64)>> = BTreeMap::new();
+        for (word, &count) in &self.bad_words {
+            let words = places.entry((word.call, word.number)).or_default();
+            words.push((word, count));
+        }
+        for words in places.values() {
+            let sum: u64 = words.iter().map(|(_, count)| count).sum();
+            let counted = |(word, count): &(&BadWord, u64)| format!("{} {count}", word.why.name());
+            let each: Vec<_> = words.iter().map(counted).collect();
+            writeln!(out, "{sum:>9}  {}: {}", place(words[0].0), each.join(", "))?;
         }
         let all = to_send().count();
         let sent = to_send().filter(|sent| self.sent.contains(sent)).count();
@@ -431,8 +543,8 @@ impl fmt::Display for Reach {
         writeln!(out, "{:>9}  unknown commands", self.unknown.len())?;
         writeln!(
             out,
-            "{:>9}  calls in {} scripts of {} bytes",
-            self.calls, self.scripts, self.bytes
+            "{:>9}  lines in {} scripts of {} bytes",
+            self.lines, self.scripts, self.bytes
         )
     }
 }

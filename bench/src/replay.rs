@@ -1,4 +1,5 @@
-//! The replay format: a script of calls in, an answer for each out.
+//! The replay format, second edition: a script of calls in, an answer for
+//! each out. `docs/REPLAY.md` has the format.
 //!
 //! One hub, one table, four reading records and a reply buffer. Memory does
 //! not grow with the script.
@@ -6,20 +7,20 @@
 pub mod call;
 pub mod lines;
 
-use std::io::{self, BufRead, Write};
+use std::io::{self, Read, Write};
 
-use crate::hub::nodes::{self, NODES, TABLE};
+use crate::hub::nodes::{self, KIND, NAME, NODES, ORDER, PLACEMENT, TABLE, VARIATION};
 use crate::hub::refusals::Refusals;
 use crate::hub::{Fed, Finished, Hub, LINES};
 use crate::outcome::{Outcome, Refusal};
 use crate::plain::{Mode, Reader};
-use call::{Bad, Call};
+use call::{is_remark, Bad, Call};
 use lines::Lines;
 
 /// The table buffer; the part in use is a right table.
 pub const TABLE_BUFFER: usize = 16384;
 /// The reply buffer, and what it is filled with before each call.
-pub const ROOM_BUFFER: usize = 1024;
+pub const ROOM_BUFFER: usize = 8192;
 const FILL: u8 = 0xA5;
 
 /// Answers that are kept before they are written.
@@ -27,12 +28,14 @@ const OUTPUT: usize = 64 * 1024;
 
 /// What a line of a script came to.
 pub enum Told {
+    Remark,
     Bad(Bad),
     Refused(Refusals),
     Done,
     Fed(Fed),
     Finished(Finished),
     Shown,
+    Listed,
 }
 
 pub struct Replay {
@@ -40,6 +43,8 @@ pub struct Replay {
     pub records: [Reader; LINES],
     table: Vec<u8>,
     room: [u8; ROOM_BUFFER],
+    /// Lines taken so far.
+    lines: u64,
 }
 
 impl Default for Replay {
@@ -55,6 +60,7 @@ impl Replay {
             records: [const { Reader::new() }; LINES],
             table: vec![0; TABLE_BUFFER],
             room: [FILL; ROOM_BUFFER],
+            lines: 0,
         }
     }
 
@@ -65,6 +71,10 @@ impl Replay {
 
     /// Takes one line of a script and writes its answer.
     pub fn line(&mut self, line: &[u8], answer: &mut Vec<u8>) -> Told {
+        self.lines += 1;
+        if is_remark(line) {
+            return Told::Remark;
+        }
         match Call::parse(line) {
             Ok(call) => self.call(&call, answer),
             Err(bad) => {
@@ -76,7 +86,7 @@ impl Replay {
     }
 
     /// Makes one call and writes its answer.
-    pub fn call(&mut self, call: &Call, answer: &mut Vec<u8>) -> Told {
+    fn call(&mut self, call: &Call, answer: &mut Vec<u8>) -> Told {
         self.room.fill(FILL);
         let told = self.made(call).unwrap_or_else(Told::Refused);
         self.write(&told, lent_room(call), answer);
@@ -119,39 +129,42 @@ impl Replay {
                 room: lent,
             } => return hub.finish(session, &mut room[..lent]).map(Told::Finished),
             Call::Show => return Ok(Told::Shown),
+            Call::Table => return Ok(Told::Listed),
         }
         Ok(Told::Done)
     }
 
+    /// Writes the answer of a line that is no remark. The call was lent so
+    /// much room.
     fn write(&self, told: &Told, lent: usize, answer: &mut Vec<u8>) {
+        let room = &self.room[..lent];
         // What the call may not have written.
-        let kept = match told {
+        let mut kept = room;
+        match told {
             Told::Fed(fed) => {
-                write_fed(fed, &self.room[..fed.reply], answer);
-                &self.room[fed.reply..]
+                let (reply, behind) = room.split_at(fed.reply);
+                write_fed(fed, reply, answer);
+                kept = behind;
             }
             Told::Finished(finished) => {
+                let (reply, behind) = room.split_at(finished.reply);
                 put(answer, format_args!("finished {} reply ", finished.line));
-                write_bytes(&self.room[..finished.reply], answer);
-                &self.room[finished.reply..]
+                write_bytes(reply, answer);
+                kept = behind;
             }
-            Told::Refused(refusals) => {
-                put(answer, format_args!("refused {}", refusals.given()));
-                &self.room[..lent]
+            Told::Refused(refusals) => put(answer, format_args!("refused {}", refusals.given())),
+            Told::Bad(Bad::TooLong) => {
+                put(answer, format_args!("bad line {} too long", self.lines));
             }
-            Told::Bad(_) => {
-                answer.extend(b"bad line");
-                &[]
+            Told::Bad(Bad::Word(word)) => {
+                let (line, word) = (self.lines, word.number);
+                put(answer, format_args!("bad line {line} word {word}"));
             }
-            Told::Done => {
-                answer.extend(b"done");
-                &[]
-            }
-            Told::Shown => {
-                self.show(answer);
-                &[]
-            }
-        };
+            Told::Done => answer.extend(b"done"),
+            Told::Shown => self.show(answer),
+            Told::Listed => self.list(answer),
+            Told::Remark => {}
+        }
         if kept.iter().any(|&byte| byte != FILL) {
             answer.extend(b" spilled");
         }
@@ -166,7 +179,10 @@ impl Replay {
         for (slot, session) in self.hub.sessions.slots.iter().enumerate() {
             let Some(session) = session else { continue };
             let (number, line) = (session.number, session.line);
-            put(answer, format_args!("slot {slot} {number:04X} {line}"));
+            put(
+                answer,
+                format_args!("slot {slot} session {number:04X} line {line} nodes"),
+            );
             for node in &session.nodes {
                 put(answer, format_args!(" {node}"));
             }
@@ -190,22 +206,49 @@ impl Replay {
         }
         answer.extend(b"end");
     }
+
+    /// The nodes in use for people, but for the LF behind `end`.
+    fn list(&self, answer: &mut Vec<u8>) {
+        for node in nodes::all_in_use(&self.table) {
+            let record = nodes::record(&self.table, node);
+            let (kind, order) = (nodes::two(record, KIND), nodes::two(record, ORDER));
+            let (placement, variation) = (record[PLACEMENT], record[VARIATION]);
+            put(
+                answer,
+                format_args!(
+                    "node {node} type {kind:04X} order {order} placement {placement} \
+                    variation {variation} name \""
+                ),
+            );
+            write_text(&record[NAME], answer);
+            answer.extend(b"\"\n");
+        }
+        answer.extend(b"end");
+    }
 }
 
-/// Answers a whole script.
-pub fn run(input: impl BufRead, mut output: impl Write) -> io::Result<()> {
+/// Answers a whole script. What it has to say is written before it waits for
+/// more input.
+pub fn run(input: impl Read, mut output: impl Write) -> io::Result<()> {
     let mut replay = Replay::new();
     let mut lines = Lines::new(input);
     let mut line = Vec::new();
     let mut answer = Vec::new();
-    while lines.next(&mut line)? {
+    loop {
+        let more = lines.next(&mut line, || write_out(&mut answer, &mut output))?;
+        if !more {
+            return Ok(());
+        }
         replay.line(&line, &mut answer);
         if answer.len() >= OUTPUT {
-            output.write_all(&answer)?;
-            answer.clear();
+            write_out(&mut answer, &mut output)?;
         }
     }
-    output.write_all(&answer)?;
+}
+
+fn write_out(answer: &mut Vec<u8>, output: &mut impl Write) -> io::Result<()> {
+    output.write_all(answer)?;
+    answer.clear();
     output.flush()
 }
 
@@ -256,6 +299,17 @@ pub fn write_bytes(bytes: &[u8], text: &mut Vec<u8>) {
     };
     text.reserve(2 * bytes.len());
     text.extend(bytes.iter().flat_map(pair));
+}
+
+/// A name as text: up to its first zero byte, between quotes.
+fn write_text(name: &[u8], text: &mut Vec<u8>) {
+    for &byte in name.iter().take_while(|&&byte| byte != 0) {
+        match byte {
+            b'"' | b'\\' => text.extend([b'\\', byte]),
+            0..=0x1F | 0x7F => put(text, format_args!("\\x{byte:02X}")),
+            _ => text.push(byte),
+        }
+    }
 }
 
 #[cfg(test)]

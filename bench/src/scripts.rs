@@ -19,6 +19,7 @@ use crate::hub::LINES;
 use crate::outcome::{DATA_MOST, END};
 use crate::random::Random;
 use crate::reach;
+use crate::replay::call::Call;
 use crate::sender;
 use requests::Taste;
 use writer::Writer;
@@ -29,6 +30,8 @@ const CALLS: (usize, usize) = (100, 500);
 const ENTRIES_EACH: usize = 10;
 const UNKNOWN_EACH: usize = 60;
 const UNKNOWN_SCRIPTS: usize = 20;
+/// One script of bad lines in so many has a CR before each LF.
+const RETURNS_ONCE_IN: usize = 16;
 
 /// What a script is about.
 #[derive(Clone, Copy, Debug, PartialEq, Eq)]
@@ -45,14 +48,16 @@ pub enum Kind {
     Wire,
     /// Host calls and refused calls.
     Calls,
-    /// Bad lines.
+    /// Remarks and bad lines.
     Bad,
+    /// Nodes with names of all kinds of bytes, listed.
+    Names,
     /// All of these.
     Mixed,
 }
 
 impl Kind {
-    pub const ALL: [Kind; 8] = [
+    pub const ALL: [Kind; 9] = [
         Kind::Directory,
         Kind::Unknown,
         Kind::Requests,
@@ -60,6 +65,7 @@ impl Kind {
         Kind::Wire,
         Kind::Calls,
         Kind::Bad,
+        Kind::Names,
         Kind::Mixed,
     ];
 
@@ -72,6 +78,7 @@ impl Kind {
             Kind::Wire => "wire",
             Kind::Calls => "calls",
             Kind::Bad => "bad",
+            Kind::Names => "names",
             Kind::Mixed => "mixed",
         }
     }
@@ -120,6 +127,9 @@ impl Name {
             kind => drawn(&mut writer, kind),
         }
         host::end(&mut writer);
+        if self.kind == Kind::Bad && writer.random.once_in(RETURNS_ONCE_IN) {
+            return bad::with_returns(&writer.script);
+        }
         writer.script
     }
 }
@@ -206,8 +216,15 @@ fn step(writer: &mut Writer, kind: Kind) {
         Kind::Wire => wires(writer),
         Kind::Calls => host::any_call(writer),
         Kind::Bad => bad::some(writer),
+        Kind::Names => names(writer),
         Kind::Mixed | Kind::Directory | Kind::Unknown => {
-            let kinds = [Kind::Requests, Kind::Sessions, Kind::Wire, Kind::Bad];
+            let kinds = [
+                Kind::Requests,
+                Kind::Sessions,
+                Kind::Wire,
+                Kind::Bad,
+                Kind::Names,
+            ];
             let other = writer.random.pick(&kinds);
             step(writer, other);
         }
@@ -235,6 +252,17 @@ fn requests(writer: &mut Writer, taste: Taste) {
         }
     }
     writer.send(waiting);
+}
+
+/// Names, orders and variations of some nodes, then the table.
+fn names(writer: &mut Writer) {
+    let line = writer.random.below(LINES) as u8;
+    set_login(writer, line, true);
+    for _ in 0..writer.random.between(1, 20) {
+        let (command, data) = requests::setting(writer);
+        writer.send_one(line, sender::wire(command, &data));
+    }
+    writer.call(Call::Table);
 }
 
 /// Captures on some lines, requests on others.
@@ -292,8 +320,6 @@ mod tests {
         }
         let rows = reach.missing_rows();
         let others = reach.missing();
-        assert!(others
-            .iter()
-            .all(|missing| rows.contains(&missing.as_str())));
+        assert!(others.iter().all(|missing| rows.contains(missing)));
     }
 }

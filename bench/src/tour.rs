@@ -1,4 +1,4 @@
-//! A tour through every call, refusal, status, error byte and bad line: the
+//! A tour through every call, refusal, status, error byte and bad word: the
 //! script of `examples/all.script`, in parts with names.
 
 use crate::generate::rows::ROWS;
@@ -56,7 +56,10 @@ pub fn parts() -> Vec<Part> {
     tour.removes();
     tour.virgin();
     tour.start_again();
+    tour.names();
+    tour.remarks();
     tour.bad_lines();
+    tour.good_lines();
     tour.parts
 }
 
@@ -69,56 +72,161 @@ const NEW_PASSWORD: [u8; 32] = [
     20, 21, 22, 23, 24, 25, 26, 255,
 ];
 
-/// Lines that are no calls.
-const BAD_LINES: [&str; 48] = [
-    "",
+/// Lines with a bad word, by call and by word. Nothing else is wrong with
+/// most of them.
+const BAD_LINES: [&str; 134] = [
+    // Word 1.
     " ",
     " show",
-    "show ",
-    "show 0",
+    "\r",
     "show\r",
     "close\t0",
-    "close  0",
     "Show",
     "START -",
     "stop",
-    "fee 0 512 C0",
     "feeds 0 512 C0",
+    "fee 0 512 C0",
     "-",
-    "close",
+    // Behind the last word.
+    "show ",
+    "show 0",
+    "table ",
+    "table # names",
+    "close 0 ",
     "close 0 0",
-    "start",
+    "start - 14400 ",
     "start - 14400 0",
-    "enrol 1",
+    "enrol 1 1 14400 ",
     "enrol 1 1 14400 1",
-    "feed 0 512",
+    "feed 0 512 C0 14400 ",
     "feed 0 512 C0 14400 0",
-    "finish 3",
-    "finish 3 512 14400",
+    "finish 0003 512 ",
+    "finish 0003 512 14400",
+    // Words of close.
+    "close",
+    "close ",
+    "close  0",
+    "close 0\r",
+    "close 0\t",
     "close -1",
     "close +1",
-    "close 01",
-    "close 00",
+    "close -",
     "close 0x1",
-    "close 256",
+    "close 00",
+    "close 01",
+    "close 000001",
     "close 100000",
     "close 4294967296",
+    "close 256",
+    // Words of start.
+    "start",
+    "start  -",
+    "start -\r",
+    "start \t-",
+    "start 0g",
+    "start 0",
+    "start - ",
+    "start - 14400\r",
+    "start - 14400\t",
+    "start - -",
+    "start - C0",
+    "start - 014400",
+    "start - 144000",
+    "start - 16385",
+    // Words of enrol.
+    "enrol",
+    "enrol  1",
+    "enrol 1\r 1",
+    "enrol \t1 1",
+    "enrol -1 1",
+    "enrol one 1",
+    "enrol 01 1",
+    "enrol 000100000 1",
+    "enrol 100000 1",
     "enrol 256 1",
+    "enrol 1",
+    "enrol 1  1",
+    "enrol 1 1\r",
+    "enrol 1 1\t",
+    "enrol 1 +1",
+    "enrol 1 0101h",
+    "enrol 1 0257",
+    "enrol 1 655360",
     "enrol 1 65536",
+    "enrol 1 1 ",
+    "enrol 1 1 14400\r",
+    "enrol 1 1 14400\t",
+    "enrol 1 1 -1",
+    "enrol 1 1 x",
+    "enrol 1 1 00",
+    "enrol 1 1 100000",
     "enrol 1 1 16385",
+    // Words of feed, left to right.
+    "feed",
+    "feed  512 C0",
+    "feed 0\r 512 C0",
+    "feed 0\t512 C0",
+    "feed +0 512 C0",
+    "feed x 512 C0",
+    "feed 00 512 C0",
+    "feed 100000 512 C0",
     "feed 256 512 C0",
-    "feed 0 1025 C0",
-    "feed 0 512 C0 16385",
-    "feed 0 512 C",
-    "feed 0 512 C0C",
+    "feed 0",
+    "feed 0  C0",
+    "feed 0 512\r C0",
+    "feed 0 512\tC0",
+    "feed 0 -512 C0",
+    "feed 0 C0",
+    "feed 0 0512 C0",
+    "feed 0 512000 C0",
+    "feed 0 8193 C0",
+    "feed 0 512",
+    "feed 0 512 ",
+    "feed 0 512 C0\r",
+    "feed 0 512 C0\t",
     "feed 0 512 CG",
     "feed 0 512 --",
+    "feed 0 512 C0C",
     "feed 4 0 C 0",
-    "start 0",
-    "start 0g",
-    "start - -",
-    "finish 65536 512",
-    "finish 3 1025",
+    "feed 0 512 C0 ",
+    "feed 0 512 C0 14400\r",
+    "feed 0 512 C0 14400\t",
+    "feed 0 512 C0 -1",
+    "feed 0 512 C0 00h",
+    "feed 0 512 C0 00",
+    "feed 0 512 C0 100000",
+    "feed 0 512 C0 16385",
+    "feed 256 8193 CG 16385 0",
+    "feed 0 8193 CG 16385 0",
+    // Words of finish.
+    "finish",
+    "finish  512",
+    "finish 0003\r 512",
+    "finish 0003\t512",
+    "finish 000G 512",
+    "finish -003 512",
+    "finish 3 512",
+    "finish 00003 512",
+    "finish 0003",
+    "finish 0003 ",
+    "finish 0003 512\r",
+    "finish 0003 512\t",
+    "finish 0003 -1",
+    "finish 0003 512,",
+    "finish 0003 0512",
+    "finish 0003 100000",
+    "finish 0003 8193",
+];
+
+/// Names of nodes, as `table` writes them: with zero bytes behind them, with
+/// other bytes, or all 64.
+const NAMES: [&[u8]; 6] = [
+    b"East vent",
+    b"\"Attic\" C:\\roof",
+    b"\x01\t\n\x1F~\x7F",
+    b"S\xC3\xBCd \x80\xFF",
+    b"\0behind the zero byte",
+    b"0123456789012345678901234567890123456789012345678901234567890123",
 ];
 
 /// What a mode send names; the other fields are fixed.
@@ -169,11 +277,13 @@ struct Tour {
 }
 
 impl Tour {
+    /// Begins a part with its name as a remark, behind an empty line.
     fn part(&mut self, name: &'static str) {
-        self.parts.push(Part {
-            name,
-            lines: Vec::new(),
-        });
+        let mut lines = vec![format!("# {name}")];
+        if !self.parts.is_empty() {
+            lines.insert(0, String::new());
+        }
+        self.parts.push(Part { name, lines });
     }
 
     fn line(&mut self, line: &str) {
@@ -231,6 +341,7 @@ impl Tour {
     fn before_any_start(&mut self) {
         self.part("before any start: empty state, P12, the password is 32 zero bytes");
         self.show();
+        self.line("table");
         self.send(0, 0x0008, &[]);
         self.enter(0, &[0; 32]);
         self.send(0, 0x0008, &[]);
@@ -271,7 +382,7 @@ impl Tour {
     }
 
     fn refused_feeds(&mut self) {
-        self.part("feed: refusals 7, 8, 9 and their order; room 511 and 512");
+        self.part("feed: refusals 7, 8, 9 and their order; room 511, 512 and 8192");
         let bytes = &[END, 0, 3, 0];
         for table in [0, TABLE - 1, TABLE + 1] {
             self.feed_lent(2, ROOM_LEAST, bytes, table);
@@ -289,7 +400,7 @@ impl Tour {
         self.feed_lent(2, 511, &[], TABLE);
         self.show();
         self.feed_lent(2, 512, bytes, TABLE);
-        self.feed_lent(2, 1024, &[8, 0x0B, END], TABLE);
+        self.feed_lent(2, 8192, &[8, 0x0B, END], TABLE);
     }
 
     fn rows(&mut self) {
@@ -394,6 +505,20 @@ impl Tour {
         }
         self.send(0, GET_NODE, &[1]);
         self.show();
+    }
+
+    fn names(&mut self) {
+        self.part("table: names with all kinds of bytes, order, placement, variation");
+        for (node, name) in (10..).zip(NAMES) {
+            self.enrol(node, 0x0101);
+            let mut data = vec![node];
+            data.extend(name);
+            data.resize(65, 0);
+            self.send(0, SET_NAME, &data);
+        }
+        self.send(0, SET_ORDER, &[11, 0x12, 0x34, 200]);
+        self.send(0, SET_VARIATION, &[11, 4]);
+        self.line("table");
     }
 
     fn mode_sends_refused(&mut self) {
@@ -544,14 +669,30 @@ impl Tour {
         self.feed(3, &[ESC_END, END]);
     }
 
+    fn remarks(&mut self) {
+        self.part("remarks and empty lines: no answer");
+        for line in ["", "#", "#show", "# show\r", "##\t close 0 ", "", ""] {
+            self.line(line);
+        }
+        self.line("close 9");
+    }
+
     fn bad_lines(&mut self) {
-        self.part("bad lines: nothing changes; words in small hexadecimal digits are good");
+        self.part("bad lines: each kind of bad word at each place; nothing changes");
         for line in BAD_LINES {
             self.line(line);
         }
+        self.show();
+    }
+
+    fn good_lines(&mut self) {
+        self.part("small hexadecimal digits are good; a session is four digits");
         self.line("feed 0 512 c000030008");
         self.line("feed 0 512 0bC0");
         self.finish(3, 512);
+        self.mode_send(0, ModeSend::of(0xABCD, &[22]));
+        self.line("finish aBcD 512");
+        self.line("finish abcd 512");
         self.show();
     }
 }
@@ -561,11 +702,16 @@ mod tests {
     use super::*;
     use crate::reach::Reach;
 
+    /// What needs 200 nodes, a line of 40000 bytes or a last line without LF
+    /// is left out.
     #[test]
     fn everything_is_reached() {
         let mut reach = Reach::default();
         reach.answer(script().as_bytes());
-        assert_eq!(reach.missing_rows(), ["bad line: more than 40000 bytes"]);
+        let mut missing = reach.missing_rows();
+        let left_out = ["40000 bytes", "too long", "without LF", "all nodes"];
+        missing.retain(|row| !left_out.iter().any(|words| row.contains(words)));
+        assert!(missing.is_empty(), "{missing:?}");
     }
 
     #[test]
@@ -582,7 +728,7 @@ mod tests {
 
     #[test]
     fn the_script_is_short() {
-        assert!(script().lines().count() < 400);
+        assert!(script().lines().count() < 550);
         assert!(script().lines().all(|line| line.len() < 1200));
     }
 }

@@ -10,13 +10,21 @@ use std::io;
 use std::path::Path;
 use std::process::ExitCode;
 
-use bench::arguments::{self, Arguments};
+use bench::arguments::{self, no_more, wrong, Arguments, Usage};
 use bench::difference;
 use bench::scripts::damage::{self, Pair};
 use bench::stand::{Feed, Stand};
 use bench::workers::{self, WORKERS};
 
-const USAGE: &str = "usage: compare-damage PROGRAM [INDEX] [--scripts N] [--seed S]";
+const USAGE: Usage = Usage {
+    numbers: &["--scripts", "--seed"],
+    ..Usage::words(
+        "usage: compare-damage PROGRAM [INDEX] [--scripts N] [--seed S]
+Tries on a replay program that a damaged frame leaves no trace, on N pairs of
+scripts (3000 if not given), or on the pair INDEX alone.
+",
+    )
+};
 /// Pairs that are run unless another number is asked for.
 const SCRIPTS: u64 = 3_000;
 /// More bytes than the answers to a script have.
@@ -45,17 +53,18 @@ enum Fault {
 }
 
 fn main() -> ExitCode {
-    arguments::end(compare_as_asked())
+    arguments::run(&USAGE, compare_as_asked)
 }
 
-fn compare_as_asked() -> Result<ExitCode, Box<dyn Error>> {
-    let arguments = Arguments::new(env::args().skip(1), &["--scripts", "--seed"])?;
-    let (program, index) = arguments.words.split_first().ok_or(USAGE)?;
+fn compare_as_asked(arguments: &Arguments) -> Result<ExitCode, Box<dyn Error>> {
+    let (program, index) = arguments.program()?;
     let seed = arguments.number("--seed", 1);
     let indices: Vec<usize> = match index {
         [] => (0..arguments.number("--scripts", SCRIPTS) as usize).collect(),
-        [index] => vec![index.parse()?],
-        _ => return Err(USAGE.into()),
+        [index, more @ ..] => {
+            no_more(more)?;
+            vec![index.parse().map_err(|_| wrong("INDEX is a number"))?]
+        }
     };
     let (counts, found) = compare(Path::new(program), seed, &indices)?;
     if let Some((number, difference)) = found {

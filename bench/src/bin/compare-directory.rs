@@ -1,26 +1,27 @@
 //! Compares the directory that a program writes with the bench's own.
 
-use std::env;
 use std::error::Error;
 use std::path::Path;
 use std::process::ExitCode;
 
-use bench::arguments::{self, Arguments};
+use bench::arguments::{self, no_more, Arguments, Usage};
 use bench::difference::{self, Fault};
 use bench::directory;
 use bench::stand::{Feed, Stand};
 
-const USAGE: &str = "usage: compare-directory PROGRAM";
+const USAGE: Usage = Usage::words(
+    "usage: compare-directory PROGRAM
+Compares the directory that PROGRAM writes with the bench's own.
+",
+);
 
 fn main() -> ExitCode {
-    arguments::end(compare())
+    arguments::run(&USAGE, compare)
 }
 
-fn compare() -> Result<ExitCode, Box<dyn Error>> {
-    let arguments = Arguments::new(env::args().skip(1), &[])?;
-    let [program] = &arguments.words[..] else {
-        return Err(USAGE.into());
-    };
+fn compare(arguments: &Arguments) -> Result<ExitCode, Box<dyn Error>> {
+    let (program, more) = arguments.program()?;
+    no_more(more)?;
     let expected = directory::listing().into_bytes();
     let mut stand = Stand::new(Path::new(program), "directory")?;
     let answer = stand.run(&[], Feed::File, difference::enough(&expected));

@@ -8,16 +8,26 @@ use std::io;
 use std::path::Path;
 use std::process::ExitCode;
 
-use bench::arguments::{self, Arguments};
+use bench::arguments::{self, wrong, Arguments, Usage};
 use bench::difference::{self, quoted, Fault};
 use bench::reach::Reach;
-use bench::replay::lines::Lines;
+use bench::replay::lines;
 use bench::replay::Replay;
 use bench::scripts::{Kind, Name};
 use bench::stand::{Feed, Stand};
 use bench::workers::{self, WORKERS};
 
-const USAGE: &str = "usage: compare-replay PROGRAM [KIND INDEX] [--scripts N] [--seed S]";
+const USAGE: Usage = Usage {
+    numbers: &["--scripts", "--seed"],
+    ..Usage::words(
+        "usage: compare-replay PROGRAM [KIND INDEX] [--scripts N] [--seed S]
+Runs a replay program on N generated scripts (2400 if not given), or on the
+script KIND INDEX alone, and compares its answers with the second hub's.
+KIND is one of directory, unknown, requests, sessions, wire, calls, bad, names,
+mixed.
+",
+    )
+};
 /// Scripts that are run unless another number is asked for.
 const SCRIPTS: u64 = 2_400;
 /// One script in so many comes in parts.
@@ -32,17 +42,16 @@ struct Difference {
 }
 
 fn main() -> ExitCode {
-    arguments::end(compare_as_asked())
+    arguments::run(&USAGE, compare_as_asked)
 }
 
-fn compare_as_asked() -> Result<ExitCode, Box<dyn Error>> {
-    let arguments = Arguments::new(env::args().skip(1), &["--scripts", "--seed"])?;
-    let (program, name) = arguments.words.split_first().ok_or(USAGE)?;
+fn compare_as_asked(arguments: &Arguments) -> Result<ExitCode, Box<dyn Error>> {
+    let (program, name) = arguments.program()?;
     let seed = arguments.number("--seed", 1);
     let names = if name.is_empty() {
         names(arguments.number("--scripts", SCRIPTS) as usize)
     } else {
-        vec![Name::parse(name).ok_or(USAGE)?]
+        vec![Name::parse(name).ok_or_else(|| wrong("no such script"))?]
     };
     let (reach, found) = compare(Path::new(program), seed, &names)?;
     if let Some((number, difference)) = found {
@@ -149,15 +158,18 @@ fn show_call(script: &[u8], expected: &[u8], got: &[u8]) -> io::Result<()> {
         .take_while(|(one, other)| one == other)
         .count();
     let mut replay = Replay::new();
-    let mut lines = Lines::new(script);
-    let (mut line, mut answers, mut number) = (Vec::new(), Vec::new(), 0);
-    while answers.len() <= same && lines.next(&mut line)? {
+    let (mut last, mut answers, mut number) = (Vec::new(), Vec::new(), 0);
+    for line in lines::all(script) {
+        if answers.len() > same {
+            break;
+        }
         replay.line(&line, &mut answers);
         number += 1;
+        last = line;
     }
     println!(
         "  call      line {number} of the script: {}",
-        quoted(Some(&line))
+        quoted(Some(&last))
     );
     difference::show_line(expected, got);
     Ok(())

@@ -1,13 +1,13 @@
 //! Runs a listing program on generated captures and compares what it writes,
 //! byte for byte, with the reader of the paper.
 
-use std::env;
 use std::error::Error;
+use std::fs;
 use std::io;
 use std::path::Path;
 use std::process::ExitCode;
 
-use bench::arguments::{self, Arguments};
+use bench::arguments::{self, no_more, wrong, Arguments, Usage};
 use bench::difference::{self, Fault};
 use bench::generate::{Kind, Name};
 use bench::paper;
@@ -15,7 +15,18 @@ use bench::stand::{Feed, Stand};
 use bench::tally::Tally;
 use bench::workers::{self, WORKERS};
 
-const USAGE: &str = "usage: compare PROGRAM [[large] KIND INDEX] [--captures N] [--seed S]";
+const USAGE: Usage = Usage {
+    numbers: &["--captures", "--seed"],
+    texts: &["--file"],
+    ..Usage::words(
+        "usage: compare PROGRAM [[large] KIND INDEX] [--captures N] [--seed S]
+       compare PROGRAM --file CAPTURE
+Runs a listing program on N generated captures (20000 if not given), on the
+generated capture KIND INDEX alone, or on the file CAPTURE, and compares what it
+writes with the second reader's listing.
+",
+    )
+};
 /// Captures that are compared unless another number is asked for.
 const CAPTURES: u64 = 20_000;
 /// The fewest drawn captures of a kind.
@@ -43,18 +54,21 @@ struct Found {
 }
 
 fn main() -> ExitCode {
-    arguments::end(compare_as_asked())
+    arguments::run(&USAGE, compare_as_asked)
 }
 
-fn compare_as_asked() -> Result<ExitCode, Box<dyn Error>> {
-    let arguments = Arguments::new(env::args().skip(1), &["--captures", "--seed"])?;
-    let (program, name) = arguments.words.split_first().ok_or(USAGE)?;
+fn compare_as_asked(arguments: &Arguments) -> Result<ExitCode, Box<dyn Error>> {
+    let (program, name) = arguments.program()?;
+    if let Some(file) = arguments.text("--file") {
+        no_more(name)?;
+        return compare_file(program, file);
+    }
     let seed = arguments.number("--seed", 1);
     let captures = arguments.number("--captures", CAPTURES) as usize;
     let names = if name.is_empty() {
         names(captures)
     } else {
-        vec![Name::parse(name).ok_or(USAGE)?]
+        vec![Name::parse(name).ok_or_else(|| wrong("no such capture"))?]
     };
     let found = compare(Path::new(program), seed, &names)?;
     if let Some((number, difference)) = found.difference {
@@ -68,6 +82,32 @@ fn compare_as_asked() -> Result<ExitCode, Box<dyn Error>> {
     println!(
         "{} captures, seed {seed}, no difference",
         found.tally.captures()
+    );
+    Ok(ExitCode::SUCCESS)
+}
+
+/// Runs the program on a capture of the caller's own.
+fn compare_file(program: &str, file: &str) -> Result<ExitCode, Box<dyn Error>> {
+    let capture = fs::read(file).map_err(|error| format!("{file}: {error}"))?;
+    let listing = paper::read(&capture);
+    let expected = paper::render(&listing);
+    let most = difference::enough(expected.as_bytes());
+    let mut stand = Stand::new(Path::new(program), "file")?;
+    for feed in [Feed::File, Feed::Parts] {
+        let answer = stand.run(&capture, feed, most);
+        if let Some(fault) = difference::fault(expected.as_bytes(), answer) {
+            println!("a difference");
+            println!("  capture   {file}: {} bytes {}", capture.len(), way(feed));
+            println!("  again     compare {program} --file {file}");
+            show_fault(&capture, &fault);
+            return Ok(ExitCode::FAILURE);
+        }
+    }
+    println!(
+        "{file}: {} bytes, {} outcomes, left {}, no difference",
+        capture.len(),
+        listing.outcomes.len(),
+        listing.left
     );
     Ok(ExitCode::SUCCESS)
 }
@@ -165,16 +205,24 @@ fn show(difference: &Difference, program: &str, seed: u64) {
         capture,
         fault,
     } = difference;
-    let feed = match feed(*name) {
-        Feed::File => "from a file",
-        Feed::Parts => "through a pipe in parts",
-    };
     println!(
-        "  capture   {name}, seed {seed}: {} bytes {feed}",
-        capture.len()
+        "  capture   {name}, seed {seed}: {} bytes {}",
+        capture.len(),
+        way(feed(*name))
     );
     println!("  again     compare {program} {name} --seed {seed}");
     println!("  bytes     capture {name} --seed {seed}");
+    show_fault(capture, fault);
+}
+
+fn way(feed: Feed) -> &'static str {
+    match feed {
+        Feed::File => "from a file",
+        Feed::Parts => "through a pipe in parts",
+    }
+}
+
+fn show_fault(capture: &[u8], fault: &Fault) {
     match fault {
         Fault::Output(text) => show_output(capture, text),
         Fault::End(status) => println!("  output as expected, but it ended with {status}"),

@@ -7,12 +7,20 @@ use std::path::Path;
 use std::process::{Child, Command, ExitCode, Stdio};
 use std::time::{Duration, Instant};
 
-use bench::arguments::{self, Arguments};
+use bench::arguments::{self, no_more, Arguments, Usage};
 use bench::input::Input;
 use bench::scripts::load;
 use bench::watch::{self, Times};
 
-const USAGE: &str = "usage: measure-replay PROGRAM [--feeds N] [--runs N]";
+const USAGE: Usage = Usage {
+    numbers: &["--feeds", "--runs"],
+    ..Usage::words(
+        "usage: measure-replay PROGRAM [--feeds N] [--runs N]
+Times a replay program against replay-model on scripts of N feeds (5000 if not
+given), ten and a hundred times as many.
+",
+    )
+};
 /// Feeds of the shortest script unless another number is asked for.
 const FEEDS: u64 = 5_000;
 /// Runs of each side on each script unless another number is asked for.
@@ -26,14 +34,12 @@ struct Sides<'a> {
 }
 
 fn main() -> ExitCode {
-    arguments::end(measure_all())
+    arguments::run(&USAGE, measure_all)
 }
 
-fn measure_all() -> Result<ExitCode, Box<dyn Error>> {
-    let arguments = Arguments::new(env::args().skip(1), &["--feeds", "--runs"])?;
-    let [program] = &arguments.words[..] else {
-        return Err(USAGE.into());
-    };
+fn measure_all(arguments: &Arguments) -> Result<ExitCode, Box<dyn Error>> {
+    let (program, more) = arguments.program()?;
+    no_more(more)?;
     let feeds = arguments.number("--feeds", FEEDS).max(1) as usize;
     let runs = arguments.number("--runs", RUNS).max(1) as usize;
     let sides = Sides {

@@ -7,14 +7,22 @@ use std::path::Path;
 use std::process::{Child, Command, ExitCode, Stdio};
 use std::time::{Duration, Instant};
 
-use bench::arguments::{self, Arguments};
+use bench::arguments::{self, no_more, Arguments, Usage};
 use bench::input::Input;
 use bench::outcome::END;
 use bench::random::Random;
 use bench::sender;
 use bench::watch::{self, Times};
 
-const USAGE: &str = "usage: measure PROGRAM [--megabytes N] [--runs N]";
+const USAGE: Usage = Usage {
+    numbers: &["--megabytes", "--runs"],
+    ..Usage::words(
+        "usage: measure PROGRAM [--megabytes N] [--runs N]
+Times a listing program against listing on captures of N MB (50 if not given)
+and shows its peak memory.
+",
+    )
+};
 /// The size of a capture unless another is asked for.
 const MEGABYTES: u64 = 50;
 /// Runs of each side on each capture unless another number is asked for.
@@ -44,14 +52,12 @@ struct Digest {
 }
 
 fn main() -> ExitCode {
-    arguments::end(measure_all())
+    arguments::run(&USAGE, measure_all)
 }
 
-fn measure_all() -> Result<ExitCode, Box<dyn Error>> {
-    let arguments = Arguments::new(env::args().skip(1), &["--megabytes", "--runs"])?;
-    let [program] = &arguments.words[..] else {
-        return Err(USAGE.into());
-    };
+fn measure_all(arguments: &Arguments) -> Result<ExitCode, Box<dyn Error>> {
+    let (program, more) = arguments.program()?;
+    no_more(more)?;
     let size = arguments.number("--megabytes", MEGABYTES) as usize * MEGABYTE;
     let runs = arguments.number("--runs", RUNS).max(1) as usize;
     let sides = Sides {

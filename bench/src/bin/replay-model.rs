@@ -1,13 +1,21 @@
 //! The answers of the model to a script: standard input to standard output.
 
-use std::io::{self, BufReader};
+use std::io;
+use std::process::ExitCode;
 
+use bench::arguments::{self, Usage};
 use bench::replay;
 
-/// The size of the input buffer.
-const BUFFER: usize = 64 * 1024;
+const USAGE: Usage = Usage::words(
+    "usage: replay-model < SCRIPT
+Answers a script of calls by the second hub; docs/REPLAY.md has the format.
+",
+);
 
-fn main() -> io::Result<()> {
-    let input = BufReader::with_capacity(BUFFER, io::stdin().lock());
-    replay::run(input, io::stdout().lock())
+fn main() -> ExitCode {
+    arguments::run(&USAGE, |arguments| {
+        arguments.no_words()?;
+        replay::run(io::stdin().lock(), io::stdout().lock())?;
+        Ok(ExitCode::SUCCESS)
+    })
 }

@@ -1,29 +1,26 @@
 //! Writes the script of `examples/all.script`, or its contents.
 
-use std::env;
 use std::error::Error;
 use std::process::ExitCode;
 
-use bench::arguments::{self, Arguments};
+use bench::arguments::{self, wrong, Arguments, Usage};
 use bench::tour;
 
-const USAGE: &str = "usage: tour [contents]";
+const USAGE: Usage = Usage::words(
+    "usage: tour [contents]
+Writes examples/all.script, or the table of its parts.
+",
+);
 
 fn main() -> ExitCode {
-    arguments::end(write())
+    arguments::run(&USAGE, write)
 }
 
-fn write() -> Result<ExitCode, Box<dyn Error>> {
-    let arguments = Arguments::new(env::args().skip(1), &[])?;
-    match arguments
-        .words
-        .iter()
-        .map(String::as_str)
-        .collect::<Vec<_>>()[..]
-    {
+fn write(arguments: &Arguments) -> Result<ExitCode, Box<dyn Error>> {
+    match &arguments.words[..] {
         [] => print!("{}", tour::script()),
-        ["contents"] => print!("{}", tour::contents()),
-        _ => return Err(USAGE.into()),
+        [word] if word == "contents" => print!("{}", tour::contents()),
+        _ => return Err(wrong("only contents may be asked for")),
     }
     Ok(ExitCode::SUCCESS)
 }

@@ -42,6 +42,13 @@ pub fn enrol(table: &mut [u8], node: u8, kind: u16) {
     record[KIND].copy_from_slice(&kind.to_be_bytes());
 }
 
+/// A field of two bytes as a number.
+pub fn two(record: &[u8], field: Range<usize>) -> u16 {
+    record[field]
+        .iter()
+        .fold(0, |sum, &byte| sum << 8 | u16::from(byte))
+}
+
 /// All nodes in use, ascending.
 pub fn all_in_use(table: &[u8]) -> Vec<u8> {
     (0..NODES as u8)

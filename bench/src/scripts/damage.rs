@@ -10,7 +10,7 @@ use crate::hub::nodes::TABLE;
 use crate::hub::LINES;
 use crate::outcome::{END, ESC};
 use crate::random::Random;
-use crate::replay::call::Call;
+use crate::replay::call::{is_remark, Call};
 use crate::replay::Told;
 use crate::sender::{self, escape, Ends};
 
@@ -91,8 +91,8 @@ pub fn pair(seed: u64, index: usize) -> Pair {
     feeds.pair(writer)
 }
 
-/// Any state, the line being between packets. There is no `show`, so that
-/// each line has one answer.
+/// Any state, the line being between packets. Calls that write several lines
+/// and remarks are left out, so that each line has one answer.
 fn before(writer: &mut Writer, line: u8) {
     host::set_up(writer);
     for _ in 0..writer.random.below(STEPS_MOST) {
@@ -102,11 +102,10 @@ fn before(writer: &mut Writer, line: u8) {
     if !record.is_between_packets() {
         writer.send_one(line, vec![END]);
     }
-    let script = writer.script.split_inclusive(|&byte| byte == b'\n');
-    writer.script = script
-        .filter(|&text| text != b"show\n")
-        .collect::<Vec<_>>()
-        .concat();
+    let one_answer = |line: &[u8]| line != b"show" && line != b"table" && !is_remark(line);
+    let lines = writer.script.split(|&byte| byte == b'\n');
+    let lines = lines.filter(|line| one_answer(line));
+    writer.script = lines.flat_map(|line| [line, b"\n"].concat()).collect();
 }
 
 /// Well-formed frames on the line, one of them damaged: the bytes, the number

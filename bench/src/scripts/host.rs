@@ -1,7 +1,7 @@
 //! Host calls: the usual ones, and ones with any numbers and lengths.
 
-use super::requests;
 use super::writer::Writer;
+use super::{bad, requests};
 use crate::hub::commands::PASSWORD_ENTER;
 use crate::hub::nodes::{self, NODES, TABLE};
 use crate::hub::{LINES, PASSWORD};
@@ -26,17 +26,21 @@ pub fn set_up(writer: &mut Writer) {
     }
 }
 
-/// The state at the end. Some scripts have no last LF, some an empty line.
+/// The table and the state at the end. Some scripts have another line behind
+/// it, some no last LF.
 pub fn end(writer: &mut Writer) {
+    if writer.random.once_in(4) {
+        writer.call(Call::Table);
+    }
     writer.call(Call::Show);
     match writer.random.below(8) {
-        0 => {
-            writer.script.pop();
-        }
-        1 => {
-            writer.line(b"");
-        }
+        0 => bad::remark(writer),
+        1 => bad::bad_word(writer),
+        2 => bad::long(writer),
         _ => {}
+    }
+    if writer.random.once_in(4) {
+        writer.script.pop();
     }
 }
 
@@ -106,8 +110,11 @@ pub fn usual_call(writer: &mut Writer) {
             let line = writer.random.below(LINES) as u8;
             close(writer, line);
         }
-        29..32 => {
+        29..31 => {
             writer.call(Call::Show);
+        }
+        31 => {
+            writer.call(Call::Table);
         }
         32 => {
             start(writer);
@@ -123,31 +130,45 @@ pub fn any_call(writer: &mut Writer) {
     writer.call(call);
 }
 
-pub fn drawn_call(writer: &mut Writer) -> Call {
-    match writer.random.below(12) {
-        0 if writer.random.once_in(4) => Call::Show,
-        0 | 1 => Call::Start {
+fn drawn_call(writer: &mut Writer) -> Call {
+    let word = match writer.random.below(24) {
+        0 => writer.random.pick(&["show", "table"]),
+        1..4 => "start",
+        4..10 => "enrol",
+        10..12 => "close",
+        12..18 => "finish",
+        _ => "feed",
+    };
+    call_of(word, writer)
+}
+
+/// A call of this word with any numbers and lengths.
+pub fn call_of(word: &str, writer: &mut Writer) -> Call {
+    match word {
+        "start" => Call::Start {
             password: any_password(&mut writer.random),
             table: writer.any_table(),
         },
-        2..5 => Call::Enrol {
+        "enrol" => Call::Enrol {
             node: any_node(writer),
             kind: writer.random.draw() as u16,
             table: writer.any_table(),
         },
-        5 => Call::Close {
-            line: any_line(&mut writer.random),
-        },
-        6..9 => Call::Finish {
-            session: requests::any_session(writer),
-            room: writer.any_room(),
-        },
-        _ => Call::Feed {
+        "feed" => Call::Feed {
             line: any_line(&mut writer.random),
             room: writer.any_room(),
             bytes: any_bytes(&mut writer.random),
             table: writer.any_table(),
         },
+        "close" => Call::Close {
+            line: any_line(&mut writer.random),
+        },
+        "finish" => Call::Finish {
+            session: requests::any_session(writer),
+            room: writer.any_room(),
+        },
+        "show" => Call::Show,
+        _ => Call::Table,
     }
 }
 

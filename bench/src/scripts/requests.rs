@@ -51,6 +51,15 @@ pub fn request(writer: &mut Writer, line: u8, taste: Taste) -> Request {
     }
 }
 
+/// A request that sets something of a node, mostly its name.
+pub fn setting(writer: &mut Writer) -> Request {
+    match writer.random.below(6) {
+        0 => variation(writer),
+        1 => order(writer),
+        _ => name(writer),
+    }
+}
+
 /// The password, or one that differs in one byte, mostly behind a zero.
 fn enter(writer: &mut Writer) -> Request {
     let mut password = writer.replay.hub.password.to_vec();
@@ -98,8 +107,35 @@ fn variation(writer: &mut Writer) -> Request {
 
 fn name(writer: &mut Writer) -> Request {
     let mut data = vec![any_node(writer)];
-    data.extend(frames::data(64, &mut writer.random));
+    data.extend(any_name(&mut writer.random));
     (SET_NAME, data)
+}
+
+/// The bytes of a name.
+const NAME: usize = nodes::NAME.end - nodes::NAME.start;
+
+/// A name that is often text, with quotes and other bytes that are written
+/// in their own way. It ends in zero bytes, in none, or goes on behind one.
+fn any_name(random: &mut Random) -> Vec<u8> {
+    let other = random.pick(&[
+        &b"\"\\"[..],
+        b"\x01\x09\x0A\x0D\x1B\x1F",
+        b" \x7E\x7F",
+        b"\x80\xC3\xB6\xFF",
+        b"East vent",
+    ]);
+    let mut name: Vec<u8> = match random.below(4) {
+        0 => frames::data(NAME, random),
+        1 => (0..NAME).map(|_| random.pick(b"abcXYZ \"\\'")).collect(),
+        _ => (0..NAME).map(|_| random.pick(other)).collect(),
+    };
+    let length = random.pick(&[0, 1, 9, NAME - 1, NAME, NAME]);
+    match random.below(3) {
+        0 => name[length..].fill(0),
+        1 if length < NAME => name[length] = 0,
+        _ => {}
+    }
+    name
 }
 
 fn order(writer: &mut Writer) -> Request {
