@@ -5,19 +5,26 @@ mod count;
 mod rows;
 mod sides;
 
-use std::env;
 use std::error::Error;
 use std::process::ExitCode;
 use std::time::{Duration, Instant};
 
-use bench::arguments::{self, Arguments};
+use bench::arguments::{self, wrong, Arguments, Usage};
 use rows::Row;
 use sides::Side;
 
-const USAGE: &str = "usage: measure-calls [--rounds N] [--runs N]
+const USAGE: Usage = Usage {
+    numbers: &["--rounds", "--runs"],
+    ..Usage::words(
+        "usage: measure-calls [--rounds N] [--runs N]
        measure-calls count [--rounds N]
        measure-calls ROW SIDE [--rounds N]
-SIDE is `hub` or `model`; a ROW is named by its first word.";
+Times the hub's calls in process against the second hub's, or counts their
+instructions, or makes the rounds of one row on one side. SIDE is `hub` or
+`model`; a ROW is named by its first word.
+",
+    )
+};
 /// Rounds of a run, and runs of each side, unless others are asked for.
 const ROUNDS: u64 = 1_000;
 const RUNS: u64 = 300;
@@ -25,11 +32,10 @@ const RUNS: u64 = 300;
 const COUNTED: u64 = 500;
 
 fn main() -> ExitCode {
-    arguments::end(run())
+    arguments::run(&USAGE, run)
 }
 
-fn run() -> Result<ExitCode, Box<dyn Error>> {
-    let arguments = Arguments::new(env::args().skip(1), &["--rounds", "--runs"])?;
+fn run(arguments: &Arguments) -> Result<ExitCode, Box<dyn Error>> {
     let runs = arguments.number("--runs", RUNS).max(1);
     let rounds = |otherwise| arguments.number("--rounds", otherwise).max(1);
     let words: Vec<&str> = arguments.words.iter().map(String::as_str).collect();
@@ -37,11 +43,11 @@ fn run() -> Result<ExitCode, Box<dyn Error>> {
         [] => measure(rounds(ROUNDS), runs)?,
         ["count"] => count::show(rounds(COUNTED))?,
         [row, side] => {
-            let row = rows::named(row).ok_or(USAGE)?;
-            let side = Side::named(side).ok_or(USAGE)?;
+            let row = rows::named(row).ok_or_else(|| wrong("no such row"))?;
+            let side = Side::named(side).ok_or_else(|| wrong("no such side"))?;
             side.make(&row, rounds(ROUNDS));
         }
-        _ => return Err(USAGE.into()),
+        _ => return Err(wrong("wrong words")),
     }
     Ok(ExitCode::SUCCESS)
 }
