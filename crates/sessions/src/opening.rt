@@ -129,7 +129,7 @@ fn with_mark(marks: [u8; crate::MARKS], node: usize) -> [u8; crate::MARKS]
     let k = node / 8;
     if k < crate::MARKS {
         let shift = (node % 8) as u8;
-        out[k] = marks[k] | (1 << shift);
+        out[k] = out[k] | (1 << shift);
     }
     out
 }

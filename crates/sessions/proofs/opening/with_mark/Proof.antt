@@ -33,8 +33,8 @@ returns c = rw (shifted (c .before .args .node))
 returns-2 : tie.Need-returns-2
 unfolding withBit
 returns-2 c =
-    let long : length (c .before .args .t1) ≡ markBytes = search needs in
-    sym (set-out (c .before .args .t1) (c .before .args .node / 8) _ (omega (arith, long, c .if1 .left)))
+    let long : length (c .before .args .marks) ≡ markBytes = search needs in
+    sym (set-out (c .before .args .marks) (c .before .args .node / 8) _ (omega (arith, long, c .if1 .left)))
 
 pub with-mark-spec : {M : Type 1} → statement M
 with-mark-spec =
