@@ -1,5 +1,5 @@
 -- A session's bits are its nodes: it holds exactly those that its request names.
-use Prim.Native.Nat.{ℕ, zero, suc, _*_, _/_, _%_, _^_, _<_, _≤_}
+use Prim.Native.Nat.{ℕ, zero, suc, _/_, _%_, _^_, _<_}
 use mathlib.Core.Path.{_≡_, refl, sym, ap, _∙_}
 use mathlib.Core.List.{List, [], _∷_}
 use mathlib.Core.Bool.{Bool, true, false, cond, _&&_, _||_}
@@ -63,6 +63,10 @@ or-swap true false = refl
 or-swap false true = refl
 or-swap false false = refl
 
+and-false : {c : Bool} (a : Bool) → ((a && false) || c) ≡ c
+and-false true = refl
+and-false false = refl
+
 pub withBit-bit : (ms : List ℕ) (k n : ℕ) → bit (withBit ms k) n ≡ ((ltb (n / 8) (length ms) && eqb n k) || bit ms n)
 unfolding bit withBit
 withBit-bit ms k n = go (eqb (n / 8) (k / 8)) (ltb (k / 8) (length ms)) refl refl
@@ -82,10 +86,6 @@ withBit-bit ms k n = go (eqb (n / 8) (k / 8)) (ltb (k / 8) (length ms)) refl ref
         let other = ne-eqb n k (λ z. eqb-false (n / 8) (k / 8) x (ap (λ (m : ℕ). m / 8) z)) in
         rw (other, getD-set-other ms (k / 8) (n / 8) (bitOr (getD ms (k / 8) 0) (2 ^ (k % 8))) 0 (eqb-false (n / 8) (k / 8) x))
         (sym (and-false (ltb (n / 8) (length ms))))
-      where
-        and-false : {c : Bool} (a : Bool) → ((a && false) || c) ≡ c
-        and-false true = refl
-        and-false false = refl
 
 withBit-length : (ms : List ℕ) (k : ℕ) → length (withBit ms k) ≡ length ms
 unfolding withBit
@@ -96,11 +96,7 @@ withBit-length ms k = length-set ms (k / 8) (bitOr (getD ms (k / 8) 0) (2 ^ (k %
 -- a node is marked if it was before, or is among the indices and has a place
 pub marked-bit : (n : ℕ) (ns ms : List ℕ) → bit (marked ms ns) n ≡ ((ltb (n / 8) (length ms) && member n ns) || bit ms n)
 unfolding marked any
-marked-bit n [] ms = sym (none (ltb (n / 8) (length ms)))
-  where
-    none : {c : Bool} (a : Bool) → ((a && false) || c) ≡ c
-    none true = refl
-    none false = refl
+marked-bit n [] ms = sym (and-false (ltb (n / 8) (length ms)))
 marked-bit n (m ∷ ns) ms =
     rw (marked-bit n ns (withBit ms m), withBit-length ms m, withBit-bit ms m n) (go (ltb (n / 8) (length ms)) (eqb n m) (member n ns) (bit ms n))
   where
