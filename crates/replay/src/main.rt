@@ -3,9 +3,9 @@
 // by `transcript`; what they answered is written before more is read. The whole: transcript/specs/World.antt: transcript.
 ghost use Prim.Native.Nat.{_+_, _≤_, _<_};
 ghost use mathlib.Core.Path.{_≡_};
+ghost use mathlib.Core.Bool.{false};
 ghost use lib.ListN.{length};
 ghost use Rattle.script.specs.Script.{longest};
-ghost use Rattle.transcript.specs.World.{nextNumber};
 use libc::STDIN_FILENO;
 use libc::STDOUT_FILENO;
 use script::DATA_MOST;
@@ -34,7 +34,7 @@ struct Progress {
 }
 
 fn progressed(run: Run, number: u64, held: usize, going: bool) -> Progress
-    ensures { λ r. ⌜ (r .held ≡ held) × (r .number ≡ number) ⌝ }
+    ensures { λ r. ⌜ (r .held ≡ held) × (r .going ≡ going) ⌝ }
 {
     Progress {
         run: run,
@@ -53,15 +53,11 @@ fn least(a: usize, b: usize) -> usize
     b
 }
 
-// The output is written where more than `most` of it is filled.
-fn flush(run: Run, number: u64, held: usize, out: &[u8], most: usize) -> Progress
-    ensures { λ r. ⌜ (r .held ≡ held) × (r .number ≡ number) ⌝ }
+// What there is of the output is written.
+fn flush(run: Run, number: u64, held: usize, out: &[u8]) -> Progress
+    ensures { λ r. ⌜ r .held ≡ held ⌝ }
 {
-    let at = run.at;
-    if at <= most {
-        return progressed(run, number, held, true);
-    }
-    let n = least(at, out.len());
+    let n = least(run.at, out.len());
     let going = io::write_all(STDOUT_FILENO, &out[0..n]);
     let hub = run.hub;
     let readings = run.readings;
@@ -102,24 +98,7 @@ fn keep(text: &mut [u8], from: usize, held: usize) -> usize
     n
 }
 
-// One line is played and counted; the output is written where more than `most` of it is filled.
-fn one(
-    run: Run,
-    number: u64,
-    line: &[u8],
-    table: &mut [u8],
-    decoded: &mut [u8; DATA_MOST],
-    room: &mut [u8; ROOM_MOST],
-    out: &mut [u8],
-    most: usize,
-) -> Progress
-    ensures { λ r. ⌜ r .number ≡ nextNumber number ⌝ }
-{
-    let played = transcript::play(run, number, line, table, decoded, room, out);
-    flush(played, transcript::next_number(number), 0, out, most)
-}
-
-// The lines of some bytes, of which the first `seen` have no LF; those behind the last LF are held.
+// The lines of some bytes, of which the first `seen` have no LF, until the output is full; what is behind them is held.
 fn take(
     run: Run,
     first: u64,
@@ -131,6 +110,7 @@ fn take(
     out: &mut [u8],
 ) -> Progress
     requires { ⌜ seen ≤ length (now bytes) ⌝ }
+    ensures { λ r. ⌜ (r .held ≤ length (now (bytes .entry))) × (r .going ≡ false → r .held < length (now (bytes .entry))) ⌝ }
 {
     let mut all = run;
     let mut number = first;
@@ -138,73 +118,83 @@ fn take(
     let mut end = line_end(bytes, seen);
     while end < bytes.len() {
         let next = end + 1;
-        let played = one(
-            all,
-            number,
-            &bytes[from..end],
-            table,
-            decoded,
-            room,
-            out,
-            FULL,
-        );
-        all = played.run;
-        number = played.number;
-        if !played.going {
-            return played;
-        }
+        let played = transcript::play(all, number, &bytes[from..end], table, decoded, room, out);
+        all = played;
+        number = transcript::next_number(number);
         from = next;
+        if FULL < all.at {
+            return progressed(all, number, bytes.len() - from, false);
+        }
         end = line_end(bytes, from);
     }
     progressed(all, number, end - from, true)
 }
 
-// The text has bytes up to `end`, of which the first `seen` are those of the open line. What they answered is written.
+// The text has bytes up to `end`, of which the first `held` are those of the open line. What its lines answer is written.
 fn more(
     run: Run,
-    number: u64,
+    first: u64,
     text: &mut [u8],
-    seen: usize,
+    held: usize,
     end: usize,
     table: &mut [u8],
     decoded: &mut [u8; DATA_MOST],
     room: &mut [u8; ROOM_MOST],
     out: &mut [u8],
 ) -> Progress
-    requires { ⌜ (seen ≤ end) × (end ≤ length (now text)) ⌝ }
+    requires { ⌜ (held ≤ end) × (end ≤ length (now text)) ⌝ }
     ensures { λ r. ⌜ r .held ≤ longest + 1 ⌝ }
 {
-    let taken = take(run, number, &text[0..end], seen, table, decoded, room, out);
-    let open = least(taken.held, end);
-    let held = keep(text, end - open, open);
-    let after = taken.run;
-    if !taken.going {
-        return progressed(after, taken.number, held, false);
+    let mut all = run;
+    let mut number = first;
+    let mut rest = end;
+    let mut seen = held;
+    while 0 < rest {
+        let taken = take(
+            all,
+            number,
+            &text[end - rest..end],
+            seen,
+            table,
+            decoded,
+            room,
+            out,
+        );
+        let written = flush(taken.run, taken.number, taken.held, out);
+        all = written.run;
+        number = written.number;
+        rest = written.held;
+        seen = 0;
+        if !written.going {
+            return progressed(all, number, 0, false);
+        }
+        if taken.going {
+            let kept = keep(text, end - rest, rest);
+            return progressed(all, number, kept, true);
+        }
     }
-    flush(after, taken.number, held, out, 0)
+    progressed(all, number, 0, true)
 }
 
-// At the end of the input, what follows the last LF is a line if it is not empty.
-fn last(
-    run: Run,
-    number: u64,
-    line: &[u8],
-    table: &mut [u8],
-    decoded: &mut [u8; DATA_MOST],
-    room: &mut [u8; ROOM_MOST],
-    out: &mut [u8],
-) -> Progress
-    ensures { λ r. ⌜ r .held ≡ 0 ⌝ }
+// How many bytes are new behind those held: what was read; at the end of the input an LF, where an open line is held.
+fn added(got: isize, held: usize, text: &mut [u8]) -> usize
+    requires { ⌜ held < length (now text) ⌝ }
+    ensures { λ r. ⌜ held + r ≤ length (now (text .entry)) ⌝ }
 {
-    if line.len() == 0 {
-        return progressed(run, number, 0, false);
+    if got < 0 {
+        return 0;
     }
-    let ended = one(run, number, line, table, decoded, room, out, 0);
-    let after = ended.run;
-    progressed(after, number, 0, false)
+    if 0 < got {
+        return io::count(got, &text[held..]);
+    }
+    if held == 0 {
+        return 0;
+    }
+    text[held] = b'\n';
+    1
 }
 
-// Reads once.
+// Reads once. The end of the input is the last turn.
 fn turn(
     run: Run,
     number: u64,
@@ -215,18 +205,20 @@ fn turn(
     room: &mut [u8; ROOM_MOST],
     out: &mut [u8],
 ) -> Progress
-    requires { ⌜ (longest < length (now text)) × (held ≤ longest + 1) ⌝ }
+    requires { ⌜ (longest + 1 < length (now text)) × (held ≤ longest + 1) ⌝ }
     ensures { λ r. ⌜ r .held ≤ longest + 1 ⌝ }
 {
     let got = libc::read(STDIN_FILENO, &mut text[held..]);
-    if got < 0 {
+    let n = added(got, held, text);
+    if n == 0 {
         return progressed(run, number, 0, false);
     }
-    if got == 0 {
-        return last(run, number, &text[0..held], table, decoded, room, out);
+    let next = more(run, number, text, held, held + n, table, decoded, room, out);
+    if 0 < got {
+        return next;
     }
-    let n = io::count(got, &text[held..]);
-    more(run, number, text, held, held + n, table, decoded, room, out)
+    let after = next.run;
+    progressed(after, next.number, 0, false)
 }
 
 fn main() {
