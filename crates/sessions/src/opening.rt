@@ -4,7 +4,7 @@ ghost use Prim.Native.Nat.{_≤_};
 ghost use mathlib.Core.Path.{_≡_};
 ghost use lib.ListN.{replicate};
 ghost use Rattle.sessions.specs.Search.{any, first};
-ghost use Rattle.sessions.specs.Sessions.{markBytes, isFree, holds, maxIndices, withBit, marked, sessionSlot, modeSend};
+ghost use Rattle.sessions.specs.Sessions.{markBytes, isFree, holds, maxIndices, marked, sessionSlot, modeSend};
 use crate::ModeSend;
 use crate::Sent;
 use crate::Slot;
@@ -114,22 +114,13 @@ fn marked(indices: &[u8]) -> [u8; crate::MARKS]
     let mut marks = [0; crate::MARKS];
     let mut i = 0;
     while i < indices.len() {
-        let next = with_mark(marks, indices[i] as usize);
-        marks = next;
+        let node = indices[i] as usize;
         i += 1;
+        let k = node / 8;
+        if k < crate::MARKS {
+            let shift = (node % 8) as u8;
+            marks[k] = marks[k] | (1 << shift);
+        }
     }
     marks
-}
-
-// One node more.
-fn with_mark(marks: [u8; crate::MARKS], node: usize) -> [u8; crate::MARKS]
-    ensures { λ r. ⌜ r ≡ withBit marks node ⌝ }
-{
-    let mut out = marks;
-    let k = node / 8;
-    if k < crate::MARKS {
-        let shift = (node % 8) as u8;
-        out[k] = out[k] | (1 << shift);
-    }
-    out
 }
