@@ -1,5 +1,5 @@
 -- A name byte by byte: how long it is, and its text one byte further.
-use Prim.Native.Nat.{ℕ, suc, _+_, _*_, _≤_, _<_}
+use Prim.Native.Nat.{ℕ, _+_, _*_, _≤_, _<_}
 use mathlib.Core.Path.{_≡_, refl, sym, ap, _∙_}
 use mathlib.Core.List.{List, [], _∷_, _++_, append-assoc, append-nil}
 use mathlib.Core.Bool.{Bool, true, false, cond}
@@ -14,7 +14,7 @@ use borrow.Author.Tests.{eq-eqb, ne-eqb}
 use Rattle.memory.specs.WroteLaws.{take-more}
 use Rattle.text.specs.Text.{ascii}
 use Rattle.text.specs.Bytes.{hex2}
-use Rattle.report.specs.Entry.{nameLength, nameOf, shown, shownAll}
+use Rattle.report.specs.Entry.{nameLength, shown, shownAll}
 
 -- ---- where a name ends
 

@@ -1,7 +1,7 @@
 -- A node's line at some names: plain, ended by a zero byte, with each byte that is escaped and those beside them, and of all 64 bytes.
-use Prim.Native.Nat.{ℕ, _+_, _*_}
+use Prim.Native.Nat.{_+_, _*_}
 use mathlib.Core.Path.{_≡_, refl}
-use mathlib.Core.List.{List, [], _∷_, _++_}
+use mathlib.Core.List.{[], _∷_, _++_}
 use lib.ListN.{length, replicate}
 use Rattle.text.specs.Text.{ascii, digit, decimalIn, decimal}
 use Rattle.report.specs.Entry.{nameLength, shown, shownAll, entryHead, entryLine}

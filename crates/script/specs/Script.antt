@@ -33,10 +33,6 @@ byteMost = 255
 abbrev pub pairMost : ℕ
 pairMost = 65535
 
--- no line has more bytes in hexadecimal digits
-abbrev pub dataMost : ℕ
-dataMost = 20000
-
 -- no number has more digits
 abbrev pub digitsMost : ℕ
 digitsMost = 5

@@ -1,5 +1,5 @@
 -- The lines that the calls' answers and the room are written as are those of the definitions' answers: a reply is what is told, and nothing spills.
-use Prim.Native.Nat.{ℕ, zero, suc, _≤_}
+use Prim.Native.Nat.{ℕ, zero, suc}
 use mathlib.Core.Path.{_≡_, refl, sym, ap, _∙_}
 use mathlib.Core.List.{List, [], _∷_, _++_}
 use mathlib.Core.Bool.{Bool, true, false, cond, true≢false}
@@ -30,10 +30,10 @@ use Rattle.rules.specs.declared.FinishAnswer.the-variants as finish
 use Rattle.rules.specs.declared.Finished.{Finished}
 use Rattle.rules.specs.declared.FeedAnswer.{FeedAnswer}
 use Rattle.rules.specs.declared.FeedAnswer.the-variants as feed
-use Rattle.rules.specs.Answers.{number, refusalOf, finishedOf, answerOf}
+use Rattle.rules.specs.Answers.{number, refusalOf, answerOf}
 use Rattle.rules.specs.Promises.{Feeds}
 use Rattle.rules.specs.PromiseLaws.{feeds-promise}
-use Rattle.report.specs.Report.{refusedLine, frameLine, hasOther, hasSpilled}
+use Rattle.report.specs.Report.{frameLine, hasOther, hasSpilled}
 use Rattle.transcript.specs.Replies.{filler, callLine, refusalLine, finishLine, outcomeLine, feedLine}
 use Rattle.transcript.specs.World.{callTold, finishTold, outcomeTold, feedTold}
 

@@ -3,7 +3,7 @@ use Prim.Native.Nat.{ℕ}
 use mathlib.Core.Path.{_≡_, refl}
 use mathlib.Core.List.{List, [], _∷_, _++_, map}
 use mathlib.Core.Option.{none, some}
-use lib.ListN.{set, replicate}
+use lib.ListN.{replicate}
 use Rattle.frame.specs.Frame as frame
 use Rattle.frame.specs.Reader.{State, plain, emptied}
 use Rattle.frame.specs.Xor as xor
@@ -15,7 +15,7 @@ use Rattle.rules.specs.declared.Hub.{Hub}
 use Rattle.rules.specs.Hub as rules
 use Rattle.memory.specs.Octets.{same}
 use Rattle.script.specs.Script as script
-use Rattle.text.specs.Text.{ascii, digit, decimalIn, decimal, hex4}
+use Rattle.text.specs.Text.{ascii, digit, decimalIn, decimal}
 use Rattle.text.specs.Bytes.{hexPairs, bytesWord}
 use Rattle.report.specs.Report.{badLine, longLine, doneLine, lineEnd, refusedLine, finishedLine, noneLine, frameLine, packetLine}
 use Rattle.transcript.specs.World.{World, Played, callTold, finishTold, outcomeTold, feedTold, start, enrol, feed, close, finish, silent, bad, long, play, nextNumber, linesOf, answersFrom, joined, transcript}

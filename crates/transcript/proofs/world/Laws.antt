@@ -1,6 +1,6 @@
 -- What the calls' promises and the written lines make of a line of a script.
 use Prim.Native.Nat.{ℕ, zero, suc, _-_, min}
-use mathlib.Core.Path.{_≡_, refl, sym, ap, _∙_}
+use mathlib.Core.Path.{_≡_, refl, ap}
 use mathlib.Core.List.{List, [], _∷_, _++_, map}
 use mathlib.Core.Bool.{false}
 use native.Mathlib.Nat.{sub-zero, suc-min-suc, min-zero, zero-min}
@@ -16,7 +16,6 @@ use Rattle.rules.specs.Promises.{Starts, Enrols, Finishes}
 use Rattle.rules.specs.declared.CallAnswer.{CallAnswer}
 use Rattle.rules.specs.declared.FinishAnswer.{FinishAnswer}
 use Rattle.rules.specs.declared.FeedAnswer.{FeedAnswer}
-use Rattle.rules.specs.Answers.{startedOf, enrolledOf, finishedOf}
 use Rattle.rules.specs.Promises.{Closes, Feeds}
 use Rattle.rules.specs.PromiseLaws.{feeds-promise}
 use Rattle.report.specs.Report.{hasOther, badLine, longLine}

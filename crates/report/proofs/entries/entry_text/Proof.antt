@@ -5,7 +5,7 @@ use native.Mathlib.Nat.{sub-zero}
 use lib.ListN.{length, take, length-take}
 use Rattle.text.specs.Text.{ascii}
 use Rattle.text.specs.BuiltLaws.{built-wrote, built-word, built-all, built-room}
-use Rattle.report.specs.Entry.{entrySize, nameSize, nameLength, nameOf, shownAll}
+use Rattle.report.specs.Entry.{nameSize, nameLength, nameOf, shownAll}
 use Rattle.report.specs.EntryLaws.{shownAll-short}
 use borrow.Author.Needs.{needs}
 use Rattle.report.proofs.entries.entry_text.Statement.{statement}
