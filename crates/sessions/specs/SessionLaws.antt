@@ -79,34 +79,38 @@ unfolding targetsLegal any
 seen-same t [] a b e = refl
 seen-same t (n ∷ ns) a b e = simp (e n, seen-same t ns (n ∷ a) (n ∷ b) (λ m. ap (cond (eqb m n) true) (e m)))
 
--- going through the indices: the one at a place is legal, or is not, or there is none
+-- going through the indices: the one at a place is legal, or no target, or named twice, or there is none
 module _ (t is : List ℕ) (i : ℕ) (h : i < length is) where
-  pub targets-on : (ltb (getD is i 0) targetCount && (inUse t (getD is i 0) && not (member (getD is i 0) (take i is)))) ≡ true
+  pub targets-on : (ltb (getD is i 0) targetCount && inUse t (getD is i 0)) ≡ true → member (getD is i 0) (take i is) ≡ false
       → targetsLegal t (take i is) (drop i is) ≡ targetsLegal t (take (i + 1) is) (drop (i + 1) is)
   unfolding targetsLegal
-  targets-on e =
-      rw (drop-cons is i 0, targetsLegal)
-      (go (ltb (getD is i 0) targetCount) (inUse t (getD is i 0)) (not (member (getD is i 0) (take i is))) _ e
+  targets-on e f =
+      rw (drop-cons is i 0, targetsLegal, f)
+      (go (ltb (getD is i 0) targetCount) (inUse t (getD is i 0)) _ e
       ∙ rw (add-one, take-suc is i 0) (seen-same t (drop (suc i) is) _ _ (λ m. member-last m (getD is i 0) (take i is))))
     where
-      go : (a b c x : Bool) → (a && (b && c)) ≡ true → (a && (b && (c && x))) ≡ x
-      go true true true x e = refl
-      go true true false x e = absurd (false≢true e)
-      go true false c x e = absurd (false≢true e)
-      go false b c x e = absurd (false≢true e)
+      go : (a b x : Bool) → (a && b) ≡ true → (a && (b && x)) ≡ x
+      go true true x e = refl
+      go true false x e = absurd (false≢true e)
+      go false b x e = absurd (false≢true e)
 
-  pub targets-off : (ltb (getD is i 0) targetCount && (inUse t (getD is i 0) && not (member (getD is i 0) (take i is)))) ≡ false
-      → targetsLegal t (take i is) (drop i is) ≡ false
+  pub targets-off : (ltb (getD is i 0) targetCount && inUse t (getD is i 0)) ≡ false → targetsLegal t (take i is) (drop i is) ≡ false
   unfolding targetsLegal
-  targets-off e =
-      rw (drop-cons is i 0, targetsLegal)
-      (go (ltb (getD is i 0) targetCount) (inUse t (getD is i 0)) (not (member (getD is i 0) (take i is))) _ e)
+  targets-off e = rw (drop-cons is i 0, targetsLegal) (go (ltb (getD is i 0) targetCount) (inUse t (getD is i 0)) _ e)
     where
-      go : (a b c x : Bool) → (a && (b && c)) ≡ false → (a && (b && (c && x))) ≡ false
-      go true true true x e = absurd (true≢false e)
-      go true true false x e = refl
-      go true false c x e = refl
-      go false b c x e = refl
+      go : (a b x : Bool) → (a && b) ≡ false → (a && (b && x)) ≡ false
+      go true true x e = absurd (true≢false e)
+      go true false x e = refl
+      go false b x e = refl
+
+  pub targets-twice : member (getD is i 0) (take i is) ≡ true → targetsLegal t (take i is) (drop i is) ≡ false
+  unfolding targetsLegal
+  targets-twice e = rw (drop-cons is i 0, targetsLegal, e) (go (ltb (getD is i 0) targetCount) (inUse t (getD is i 0)))
+    where
+      go : (a b : Bool) → (a && (b && false)) ≡ false
+      go true true = refl
+      go true false = refl
+      go false b = refl
 
 pub targets-end : (t is : List ℕ) (i : ℕ) → length is ≤ i → targetsLegal t (take i is) (drop i is) ≡ true
 unfolding targetsLegal

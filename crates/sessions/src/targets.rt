@@ -2,7 +2,7 @@
 // The answer is that of specs/Sessions.antt: isLegal.
 ghost use mathlib.Core.Path.{_≡_};
 ghost use mathlib.Core.List.{[]};
-ghost use mathlib.Core.Bool.{not, _&&_};
+ghost use mathlib.Core.Bool.{_&&_};
 ghost use lib.Dec.{ltb};
 ghost use Rattle.nodes.specs.Table.{inUse};
 ghost use Rattle.sessions.specs.Search.{member};
@@ -41,28 +41,30 @@ pub(crate) fn is_legal(table: &[u8], request: ModeSend) -> bool
 fn targets_legal(table: &[u8], indices: &[u8]) -> bool
     ensures { λ r. ⌜ r ≡ targetsLegal (now (table .entry)) [] (now (indices .entry)) ⌝ }
 {
+    let mut seen = [false; crate::TARGETS];
     let mut i = 0;
     while i < indices.len() {
-        if !is_target(table, &indices[..i], indices[i]) {
+        let node = indices[i] as usize;
+        if !is_target(table, node) {
             return false;
         }
+        if seen[node] {
+            return false;
+        }
+        seen[node] = true;
         i += 1;
     }
     true
 }
 
-// Whether an index is a node in use that is not among those seen.
-fn is_target(table: &[u8], seen: &[u8], index: u8) -> bool
-    ensures { λ r. ⌜ r ≡ (ltb index targetCount && (inUse (now (table .entry)) index && not (member index (now (seen .entry))))) ⌝ }
+// Whether a session may hold a node.
+fn is_target(table: &[u8], node: usize) -> bool
+    ensures { λ r. ⌜ r ≡ (ltb node targetCount && inUse (now (table .entry)) node) ⌝ }
 {
-    let node = index as usize;
     if crate::TARGETS <= node {
         return false;
     }
-    if !nodes::in_use(table, node) {
-        return false;
-    }
-    !is_member(seen, index)
+    nodes::in_use(table, node)
 }
 
 // Whether a value stands among bytes.
