@@ -11,9 +11,10 @@ use lib.Seq.{set-getD, take-at}
 use lib.Dec.{ltb, eqb}
 use borrow.Author.Tests.{eqb-true}
 use Rattle.frame.specs.declared.Written.{Written}
+use Rattle.frame.specs.declared.WrittenAt.{WrittenAt}
 use Rattle.frame.specs.Writer as writer
-use Rattle.frame.specs.Writer.{minRoom, Writing, upTo, noFit, write, Writes}
-use Rattle.frame.specs.WireLaws.{write-refusal, write-untouched}
+use Rattle.frame.specs.Writer.{minRoom, Writing, upTo, noFit, write, writeAt, Writes}
+use Rattle.frame.specs.WireLaws.{Unwritten, write-refusal, write-untouched, place-untouched}
 use Rattle.nodes.specs.Table.{tableSize}
 use Rattle.line.specs.declared.Reading.{Reading}
 use Rattle.frame.specs.Frame as packet
@@ -103,6 +104,8 @@ pub record Demand1 : Type 0 where
   -- the frame writer, which keeps nothing: refused exactly if its room or its data's length is, and then it leaves the room as it was lent
   pub write-exactly : (room : List ℕ) (c : ℕ) (d : List ℕ) (r : Written) (left : List ℕ) → Writes (write room c d) (writer.told r) left → writingRefusal (writer.told r) ≡ writeRefusal (length room) (length d)
   pub write-untouched : (room : List ℕ) (c : ℕ) (d : List ℕ) (r : Written) (left : List ℕ) → Writes (write room c d) (writer.told r) left → (n : ℕ) → writingRefusal (writer.told r) ≡ some n → left ≡ room
+  -- and so where it writes at an offset: refused, or without room for the whole frame, it leaves the room
+  pub place-untouched : (room : List ℕ) (i c : ℕ) (d : List ℕ) (r : WrittenAt) (left : List ℕ) → Writes (writeAt room i c d) (writer.toldAt r) left → Unwritten (writer.toldAt r) → left ≡ room
   -- so a list without its refused calls is made as well: every other gives the same, and the end is the same
   pub without : {m e : Memory} {ss : List Step} {os : List Return} → Steps m ss os e
       → Steps m (unmarked (map isRefused os) ss) (unmarked (map isRefused os) os) e
@@ -285,8 +288,11 @@ writer-untouched room c d r left x n = go (writer.told r) refl
     go (writer.refused k) q e = x .room ∙ write-untouched room c d k (sym (x .answer) ∙ q)
     go noFit q e = absurd (Option·none-ne-some n e)
 
+writer-place : (room : List ℕ) (i c : ℕ) (d : List ℕ) (r : WrittenAt) (left : List ℕ) → Writes (writeAt room i c d) (writer.toldAt r) left → Unwritten (writer.toldAt r) → left ≡ room
+writer-place room i c d r left x u = x .room ∙ place-untouched room i c d (rw (x .answer) at u)
+
 pub demand-1 : Demand1
-demand-1 = record { any = steps-any; exactly = made-refusal; untouched = made-untouched; write-exactly = writer-exactly; write-untouched = writer-untouched; without = steps-without (λ m v s o x n p. made-untouched x n p .memory); used-up = made-used-up }
+demand-1 = record { any = steps-any; exactly = made-refusal; untouched = made-untouched; write-exactly = writer-exactly; write-untouched = writer-untouched; place-untouched = writer-place; without = steps-without (λ m v s o x n p. made-untouched x n p .memory); used-up = made-used-up }
 
 -- a feed that is not refused was lent a table of the right length
 table-right : (t : List ℕ) (l room : ℕ) → feedRefusal t l room ≡ none → length t ≡ tableSize

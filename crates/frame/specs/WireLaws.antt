@@ -4,14 +4,14 @@ use mathlib.Core.Path.{_≡_, refl, sym, ap, _∙_}
 use mathlib.Core.List.{List, [], _∷_, _++_, append-assoc}
 use mathlib.Core.Bool.{Bool, true, false, cond}
 use native.Mathlib.Omega.{arith}
-use lib.ListN.{length, drop, length-append}
+use lib.ListN.{length, take, drop, length-append}
 use lib.Dec.{ltb}
 use borrow.Author.Tests.{ltb-false}
 use Rattle.line.specs.Wire.{END, escape}
 use Rattle.line.specs.WireLaws.{escape-append, escape-short}
 use Rattle.frame.specs.XorLaws.{xorAll-append}
 use Rattle.frame.specs.Frame.{maxData, headOf, body, framed, wire}
-use Rattle.frame.specs.Writer.{minRoom, shortRoom, longData, upTo, refused, Wire, write, check}
+use Rattle.frame.specs.Writer.{minRoom, shortRoom, longData, Writing, upTo, refused, noFit, Wire, write, writeAt, check}
 
 framed-parts : (c : ℕ) (d : List ℕ) → framed c d ≡ headOf c (length d) ++ d ++ check c d ∷ []
 unfolding framed body
@@ -81,3 +81,24 @@ write-done room c d n = go (ltb (length room) minRoom) (ltb maxData (length d)) 
     go false false q e =
         let k : length (wire c d) ≡ n = cc in
         (ltb-false maxData (length d) q, sym k, ap (λ (i : ℕ). wire c d ++ drop i room) k)
+
+-- what a call that writes nothing answers: a refusal, or that the frame does not fit
+abbrev pub Unwritten : Writing → Type 0
+Unwritten (upTo n) = ⊥
+Unwritten (refused n) = Unit {0}
+Unwritten noFit = Unit {0}
+
+-- at an offset too, the room is then as it was lent
+pub place-untouched : (room : List ℕ) (i c : ℕ) (d : List ℕ) → Unwritten (writeAt room i c d .answer) → writeAt room i c d .room ≡ room
+unfolding writeAt
+place-untouched room i c d = go (ltb maxData (length d)) (ltb (length room) (i + length (wire c d)))
+  where
+    at : Bool → Bool → Wire
+    at long short =
+        cond long (record { answer = refused longData; room = room })
+        (cond short (record { answer = noFit; room = room }) (record { answer = upTo (i + length (wire c d)); room = take i room ++ wire c d ++ drop (i + length (wire c d)) room }))
+
+    go : (a b : Bool) → Unwritten (at a b .answer) → at a b .room ≡ room
+    go true b u = refl
+    go false true u = refl
+    go false false u = absurd u

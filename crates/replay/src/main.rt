@@ -1,6 +1,7 @@
 // Replays a script of calls on one hub, one table and four reading records, and answers each (the format: docs/REPLAY.md).
 // It stops where the input cannot be read or the output is not taken. The input is cut at LF here, the lines are counted, and each is played
-// by `transcript`; what they answered is written before more is read. The whole: transcript/specs/World.antt: transcript.
+// by `transcript`; what they answered is written before more is read. What a whole input comes to is defined in transcript/specs/World.antt:
+// transcript; that the cutting and counting here come to it is tested, not promised.
 ghost use Prim.Native.Nat.{_+_, _≤_, _<_};
 ghost use mathlib.Core.Path.{_≡_};
 ghost use mathlib.Core.Bool.{false};

@@ -159,6 +159,6 @@ asking = record { password = replicate passwordSize 0; logins = 1 ∷ replicate 
 abbrev allEnds : List ℕ
 allEnds = replicate (0xC0 * table.recordSize) 0 ++ (1 ∷ replicate 71 0xC0) ++ replicate (7 * table.recordSize) 0
 
-longest-met : call hub asking allEnds emptied 0 (0xC0 ∷ 0x00 ∷ 0x04 ∷ 0x02 ∷ 0x00 ∷ 0xDB ∷ 0xDC ∷ 0xC6 ∷ 0xC0 ∷ []) minRoom .result .answer ≡ told 9 (some (frame 0x0200 (0xC0 ∷ []))) 212
+pub longest-met : call hub asking allEnds emptied 0 (0xC0 ∷ 0x00 ∷ 0x04 ∷ 0x02 ∷ 0x00 ∷ 0xDB ∷ 0xDC ∷ 0xC6 ∷ 0xC0 ∷ []) minRoom .result .answer ≡ told 9 (some (frame 0x0200 (0xC0 ∷ []))) 212
 unfolding call decided settled serveIf scan onward step verdict line.step line.close inner line.decoded judge serve request getNode table.inUse information wire escape framed body xorAll _⊕_ lookup.verdict lookup.verdictOf lookup.find directory
 longest-met = refl

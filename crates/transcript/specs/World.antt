@@ -147,6 +147,6 @@ unfoldable pub answersFrom : ℕ → World → List (List ℕ) → List ℕ
 answersFrom n w [] = []
 answersFrom n w (l ∷ ls) = joined (playLine w n l .lines) ++ answersFrom (nextNumber n) (playLine w n l .world) ls
 
--- what the program writes for an input
+-- what the program is to write for an input; each line of it is what `play` promises
 unfoldable pub transcript : List ℕ → List ℕ
 transcript input = answersFrom 1 firstWorld (linesOf input)
