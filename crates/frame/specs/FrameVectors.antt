@@ -7,7 +7,7 @@ use Rattle.frame.specs.Xor.{_⊕_, xorAll}
 use Rattle.frame.specs.Frame.{escape, frame, refused, headOf, body, framed, wire, commandOf, tooLong, tooShort, wrongProtocol, wrongLength, wrongCheck, judge}
 use Rattle.frame.specs.View.{shownCommand, shownData, shownRefusal, shownStart}
 use Rattle.frame.specs.Writer as writer
-use Rattle.frame.specs.Writer.{write, writeAt}
+use Rattle.frame.specs.Writer.{write, writeAt, measured}
 
 -- two of the packets
 p4 : List ℕ
@@ -90,23 +90,57 @@ length-escaped : length (wire 0x0001 (replicate 189 0)) ≡ 189 + 8
 unfolding wire framed body escape xorAll _⊕_
 length-escaped = refl
 
--- P3 written: room of 512 bytes is taken, one of 511 is not, and the bytes behind the wire form stay
-room-512 : write (replicate 512 7) 0x0001 [] ≡ record { answer = writer.upTo 7; room = p3-sent ++ replicate 505 7 }
+-- P3 is written in its 7 bytes of room, and not in 6 or none; of 8 the last one stays
+room-7 : write (replicate 7 7) 0x0001 [] ≡ record { answer = writer.upTo 7; room = p3-sent }
 unfolding p3-sent write wire framed body escape xorAll _⊕_
-room-512 = refl
+room-7 = refl
 
-room-511 : write (replicate 511 7) 0x0001 [] ≡ record { answer = writer.refused 9; room = replicate 511 7 }
-unfolding write
-room-511 = refl
+room-8 : write (replicate 8 7) 0x0001 [] ≡ record { answer = writer.upTo 7; room = p3-sent ++ 7 ∷ [] }
+unfolding p3-sent write wire framed body escape xorAll _⊕_
+room-8 = refl
 
--- 250 data bytes are written, 251 are not
-data-250 : write (replicate 512 7) 0x0001 (replicate 250 0) .answer ≡ writer.upTo 257
+rooms-short : map (λ (n : ℕ). write (replicate n 7) 0x0001 []) (6 ∷ 0 ∷ []) ≡ map (λ (n : ℕ). record { answer = writer.refused 9; room = replicate n 7 }) (6 ∷ 0 ∷ [])
+unfolding write wire framed body escape xorAll _⊕_
+rooms-short = refl
+
+-- what is held against the room is the wire form, escaped bytes counted twice: a data byte C0, a check byte C0, a length byte C0
+abbrev answers : ℕ → List ℕ → List ℕ → List writer.Writing
+answers c d rooms = map (λ (n : ℕ). write (replicate n 7) c d .answer) rooms
+
+rooms-escaped :
+    map (λ (d : List ℕ). answers 0x0206 d (9 ∷ 10 ∷ 11 ∷ [])) ((0xC0 ∷ 0x00 ∷ []) ∷ (0xC1 ∷ 0x00 ∷ []) ∷ (0xDB ∷ 0x00 ∷ []) ∷ [])
+    ≡ replicate 3 (writer.refused 9 ∷ writer.upTo 10 ∷ writer.upTo 10 ∷ [])
+unfolding write wire framed body escape xorAll _⊕_
+rooms-escaped = refl
+
+rooms-length-escaped : answers 0x0001 (replicate 189 0) (196 ∷ 197 ∷ 198 ∷ []) ≡ writer.refused 9 ∷ writer.upTo 197 ∷ writer.upTo 197 ∷ []
+unfolding write wire framed body escape xorAll _⊕_
+rooms-length-escaped = refl
+
+-- every byte doubled but the protocol byte, the check byte too: 216 data bytes, length byte DB
+rooms-doubled : answers 0xC0C0 (replicate 216 0xC0) (442 ∷ 443 ∷ 444 ∷ []) ≡ writer.refused 9 ∷ writer.upTo 443 ∷ writer.upTo 443 ∷ []
+unfolding write wire framed body escape xorAll _⊕_
+rooms-doubled = refl
+
+-- 250 data bytes are written, plain and all doubled; 251 are not, and in room 0 too they are refusal 10
+data-250 : answers 0x0001 (replicate 250 0) (256 ∷ 257 ∷ 258 ∷ []) ≡ writer.refused 9 ∷ writer.upTo 257 ∷ writer.upTo 257 ∷ []
 unfolding write wire framed body escape xorAll _⊕_
 data-250 = refl
 
-data-251 : write (replicate 512 7) 0x0001 (replicate 251 0) ≡ record { answer = writer.refused 10; room = replicate 512 7 }
+data-250-doubled : answers 0xC0C0 (replicate 250 0xC0) (508 ∷ 509 ∷ 512 ∷ []) ≡ writer.refused 9 ∷ writer.upTo 509 ∷ writer.upTo 509 ∷ []
+unfolding write wire framed body escape xorAll _⊕_
+data-250-doubled = refl
+
+data-251 : map (λ (n : ℕ). write (replicate n 7) 0x0001 (replicate 251 0)) (0 ∷ 257 ∷ 512 ∷ []) ≡ map (λ (n : ℕ). record { answer = writer.refused 10; room = replicate n 7 }) (0 ∷ 257 ∷ 512 ∷ [])
 unfolding write
 data-251 = refl
+
+-- measured, before any room is lent
+lengths :
+    measured 0x0001 [] ∷ map (measured 0x0206) ((0xC0 ∷ 0x00 ∷ []) ∷ (0xC1 ∷ 0x00 ∷ []) ∷ []) ++ map (λ (n : ℕ). measured 0xC0C0 (replicate n 0xC0)) (250 ∷ 251 ∷ [])
+    ≡ writer.upTo 7 ∷ writer.upTo 10 ∷ writer.upTo 10 ∷ writer.upTo 509 ∷ writer.refused 10 ∷ []
+unfolding measured wire framed body escape xorAll _⊕_
+lengths = refl
 
 -- P3 written from the place 1 on: it fits where 7 bytes are left, and no fewer
 fits : writeAt (replicate 8 7) 1 0x0001 [] ≡ record { answer = writer.upTo 8; room = 7 ∷ p3-sent }

@@ -3,6 +3,7 @@ use Prim.Native.Nat.{ℕ, _+_, _*_, _≤_}
 use mathlib.Core.Path.{_≡_, refl, sym, ap, _∙_}
 use mathlib.Core.List.{List, [], _∷_, _++_, append-assoc}
 use mathlib.Core.Bool.{Bool, true, false, cond}
+use native.Mathlib.Nat.{zero-add}
 use native.Mathlib.Omega.{arith}
 use lib.ListN.{length, take, drop, length-append}
 use lib.Dec.{ltb}
@@ -11,7 +12,7 @@ use Rattle.line.specs.Wire.{END, escape}
 use Rattle.line.specs.WireLaws.{escape-append, escape-short}
 use Rattle.frame.specs.XorLaws.{xorAll-append}
 use Rattle.frame.specs.Frame.{maxData, headOf, body, framed, wire}
-use Rattle.frame.specs.Writer.{minRoom, shortRoom, longData, Writing, upTo, refused, noFit, Wire, write, writeAt, check}
+use Rattle.frame.specs.Writer.{roomForAny, shortRoom, longData, Writing, upTo, refused, noFit, Wire, write, writeAt, measured, check}
 
 framed-parts : (c : ℕ) (d : List ℕ) → framed c d ≡ headOf c (length d) ++ d ++ check c d ∷ []
 unfolding framed body
@@ -32,25 +33,25 @@ pub wire-short : (c : ℕ) (d : List ℕ) → length (wire c d) ≤ 2 * length d
 wire-short c d =
     omega (arith, wire-length c d, escape-short (headOf c (length d)), escape-short d, escape-short (check c d ∷ []))
 
--- the longest wire form fits the least room
-pub wire-fits : (c : ℕ) (d : List ℕ) → length d ≤ maxData → length (wire c d) ≤ minRoom
+-- 512 bytes are room for every frame
+pub wire-fits : (c : ℕ) (d : List ℕ) → length d ≤ maxData → length (wire c d) ≤ roomForAny
 wire-fits c d h = omega (arith, wire-short c d)
 
 -- what is written, by the two tests
 abbrev by : List ℕ → ℕ → List ℕ → Bool → Bool → Wire
-by room c d short long =
-    cond short (record { answer = refused shortRoom; room = room })
-    (cond long (record { answer = refused longData; room = room }) (record { answer = upTo (length (wire c d)); room = wire c d ++ drop (length (wire c d)) room }))
+by room c d long short =
+    cond long (record { answer = refused longData; room = room })
+    (cond short (record { answer = refused shortRoom; room = room }) (record { answer = upTo (length (wire c d)); room = wire c d ++ drop (length (wire c d)) room }))
 
--- writing is refused by document 01's numbers: 9 for room below 512 bytes, then 10 for data above 250
+-- writing is refused by document 01's numbers: 10 for data above 250, then 9 for room shorter than the wire form
 pub write-refusal : (room : List ℕ) (c : ℕ) (d : List ℕ)
-    → write room c d .answer ≡ cond (ltb (length room) 512) (refused 9) (cond (ltb 250 (length d)) (refused 10) (upTo (length (wire c d))))
+    → write room c d .answer ≡ cond (ltb 250 (length d)) (refused 10) (cond (ltb (length room) (length (wire c d))) (refused 9) (upTo (length (wire c d))))
 unfolding write
-write-refusal room c d = go (ltb (length room) minRoom) (ltb maxData (length d))
+write-refusal room c d = go (ltb maxData (length d)) (ltb (length room) (length (wire c d)))
   where
     go : (a b : Bool)
         → by room c d a b .answer
-        ≡ cond a (refused 9) (cond b (refused 10) (upTo (length (wire c d))))
+        ≡ cond a (refused 10) (cond b (refused 9) (upTo (length (wire c d))))
     go true b = refl
     go false true = refl
     go false false = refl
@@ -58,7 +59,7 @@ write-refusal room c d = go (ltb (length room) minRoom) (ltb maxData (length d))
 -- a refused write leaves the room as it was lent
 pub write-untouched : (room : List ℕ) (c : ℕ) (d : List ℕ) (n : ℕ) → write room c d .answer ≡ refused n → write room c d .room ≡ room
 unfolding write
-write-untouched room c d n = go (ltb (length room) minRoom) (ltb maxData (length d))
+write-untouched room c d n = go (ltb maxData (length d)) (ltb (length room) (length (wire c d)))
   where
     go : (a b : Bool)
         → by room c d a b .answer ≡ refused n
@@ -71,9 +72,9 @@ write-untouched room c d n = go (ltb (length room) minRoom) (ltb maxData (length
 pub write-done : (room : List ℕ) (c : ℕ) (d : List ℕ) (n : ℕ) → write room c d .answer ≡ upTo n
     → (length d ≤ maxData) × (n ≡ length (wire c d)) × (write room c d .room ≡ wire c d ++ drop n room)
 unfolding write
-write-done room c d n = go (ltb (length room) minRoom) (ltb maxData (length d)) refl
+write-done room c d n = go (ltb maxData (length d)) (ltb (length room) (length (wire c d))) refl
   where
-    go : (a b : Bool) → ltb maxData (length d) ≡ b
+    go : (a b : Bool) → ltb maxData (length d) ≡ a
         → by room c d a b .answer ≡ upTo n
         → (length d ≤ maxData) × (n ≡ length (wire c d)) × (by room c d a b .room ≡ wire c d ++ drop n room)
     go true b q e = let z : _≡_ {A = ℕ} 0 1 = cc in absurd (omega arith)
@@ -81,6 +82,17 @@ write-done room c d n = go (ltb (length room) minRoom) (ltb maxData (length d)) 
     go false false q e =
         let k : length (wire c d) ≡ n = cc in
         (ltb-false maxData (length d) q, sym k, ap (λ (i : ℕ). wire c d ++ drop i room) k)
+
+-- a frame that was measured is refused 9 exactly where its length is more than the room's
+pub write-measured : (room : List ℕ) (c : ℕ) (d : List ℕ) (n : ℕ) → measured c d ≡ upTo n
+    → write room c d .answer ≡ cond (ltb (length room) n) (refused 9) (upTo n)
+unfolding measured
+write-measured room c d n e = write-refusal room c d ∙ go (ltb 250 (length d)) e
+  where
+    go : (a : Bool) → cond a (refused longData) (upTo (length (wire c d))) ≡ upTo n
+        → cond a (refused 10) (cond (ltb (length room) (length (wire c d))) (refused 9) (upTo (length (wire c d)))) ≡ cond (ltb (length room) n) (refused 9) (upTo n)
+    go true e = let z : _≡_ {A = ℕ} 0 1 = cc in absurd (omega arith)
+    go false e = let k : length (wire c d) ≡ n = cc in rw k
 
 -- what a call that writes nothing answers: a refusal, or that the frame does not fit
 abbrev pub Unwritten : Writing → Type 0
@@ -102,3 +114,24 @@ place-untouched room i c d = go (ltb maxData (length d)) (ltb (length room) (i +
     go true b u = refl
     go false true u = refl
     go false false u = absurd u
+
+-- a frame that does not fit, by the number that it has at the front
+abbrev pub numbered : Writing → Writing
+numbered (upTo n) = upTo n
+numbered (refused n) = refused n
+numbered noFit = refused shortRoom
+
+-- writing is writing from the place 0 on, with that number
+pub write-placed : (room : List ℕ) (c : ℕ) (d : List ℕ) → write room c d ≡ record { answer = numbered (writeAt room 0 c d .answer); room = writeAt room 0 c d .room }
+unfolding write writeAt
+write-placed room c d = rw zero-add (go (ltb maxData (length d)) (ltb (length room) (length (wire c d))))
+  where
+    at : Bool → Bool → Wire
+    at long short =
+        cond long (record { answer = refused longData; room = room })
+        (cond short (record { answer = noFit; room = room }) (record { answer = upTo (length (wire c d)); room = wire c d ++ drop (length (wire c d)) room }))
+
+    go : (a b : Bool) → by room c d a b ≡ record { answer = numbered (at a b .answer); room = at a b .room }
+    go true b = refl
+    go false true = refl
+    go false false = refl

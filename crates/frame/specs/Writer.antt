@@ -9,12 +9,14 @@ use Rattle.frame.specs.declared.Written.{Written}
 use Rattle.frame.specs.declared.Written.the-variants as written
 use Rattle.frame.specs.declared.WrittenAt.{WrittenAt}
 use Rattle.frame.specs.declared.WrittenAt.the-variants as at
+use Rattle.frame.specs.declared.Measured.{Measured}
+use Rattle.frame.specs.declared.Measured.the-variants as measured-as
 use Rattle.frame.specs.Xor.{_⊕_, xorAll}
 use Rattle.frame.specs.Frame.{headOf, wire, maxData}
 
--- the room that a call which writes must be lent
-abbrev pub minRoom : ℕ
-minRoom = 512
+-- room in which every frame fits: 255 bytes, each doubled, and two ENDs. It is a bound: the protocol byte 0 is never doubled
+abbrev pub roomForAny : ℕ
+roomForAny = 512
 
 -- document 01's numbers of the writer's refusals
 abbrev pub shortRoom : ℕ
@@ -41,16 +43,20 @@ toldAt (at.UpTo n) = upTo n
 toldAt at.NoFit = noFit
 toldAt at.LongData = refused longData
 
+abbrev pub toldLength : Measured → Writing
+toldLength (measured-as.Length n) = upTo n
+toldLength measured-as.LongData = refused longData
+
 -- what a call that writes comes to, and the room that it leaves
 pub record Wire : Type 0 where
   pub answer : Writing
   pub room : List ℕ
 
--- refusal 9 for room below 512, then 10 for data above 250, nothing written; else the wire form, and what stood behind it
+-- refusal 10 for data above 250, then 9 for room shorter than the wire form, nothing written; else the wire form, and what stood behind it
 unfoldable pub write : List ℕ → ℕ → List ℕ → Wire
 write room c d =
-    cond (ltb (length room) minRoom) (record { answer = refused shortRoom; room = room })
-    (cond (ltb maxData (length d)) (record { answer = refused longData; room = room })
+    cond (ltb maxData (length d)) (record { answer = refused longData; room = room })
+    (cond (ltb (length room) (length (wire c d))) (record { answer = refused shortRoom; room = room })
     (record { answer = upTo (length (wire c d)); room = wire c d ++ drop (length (wire c d)) room }))
 
 -- the same from the place i on, in room of any length: it is written whole or not at all
@@ -59,6 +65,10 @@ writeAt room i c d =
     cond (ltb maxData (length d)) (record { answer = refused longData; room = room })
     (cond (ltb (length room) (i + length (wire c d))) (record { answer = noFit; room = room })
     (record { answer = upTo (i + length (wire c d)); room = take i room ++ wire c d ++ drop (i + length (wire c d)) room }))
+
+-- how much room a frame takes: refusal 10, else the wire form's length
+unfoldable pub measured : ℕ → List ℕ → Writing
+measured c d = cond (ltb maxData (length d)) (refused longData) (upTo (length (wire c d)))
 
 -- what an answer tells and a room are the definition's
 pub record Writes (x : Wire) (r : Writing) (l : List ℕ) : Type 0 where

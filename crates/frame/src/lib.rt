@@ -25,10 +25,11 @@ pub use view::command;
 pub use view::data;
 pub use view::refusal;
 pub use view::show;
+pub use writer::measure;
 pub use writer::write;
 pub use writer::write_at;
 
-// The greatest number of data bytes, and the least room of a call that writes.
+// The greatest number of data bytes, and room in which every frame fits.
 pub const DATA: usize = 250;
 
 pub const ROOM: usize = 512;
@@ -96,5 +97,11 @@ pub enum Written {
 pub enum WrittenAt {
     UpTo(usize),
     NoFit,
+    LongData,
+}
+
+// How much room a frame takes: the wire form's length, or the refusal of its data.
+pub enum Measured {
+    Length(usize),
     LongData,
 }

@@ -4,10 +4,13 @@ ghost use mathlib.Core.Path.{_≡_};
 ghost use Prim.Native.Nat.{_+_, _≤_};
 ghost use mathlib.Core.List.{[], _∷_};
 ghost use lib.ListN.{length};
+ghost use lib.Dec.{leb};
 ghost use Rattle.memory.specs.Wrote.{Wrote};
 ghost use Rattle.frame.specs.Frame.{maxData, headOf, escape, wire};
-ghost use Rattle.frame.specs.Writer.{told, toldAt, write, writeAt, Writes, check};
+ghost use Rattle.frame.specs.Writer.{told, toldAt, toldLength, write, writeAt, measured, Writes, check};
+use crate::AROUND;
 use crate::DATA;
+use crate::Measured;
 use crate::Written;
 use crate::WrittenAt;
 
@@ -15,11 +18,11 @@ use crate::WrittenAt;
 pub fn write(room: &mut [u8], command: u16, payload: &[u8]) -> Written
     ensures { λ r. ⌜ Writes (write (now (room .entry)) command (now (payload .entry))) (told r) (now (room .exit)) ⌝ }
 {
-    if room.len() < crate::ROOM {
-        return Written::ShortRoom;
-    }
     if DATA < payload.len() {
         return Written::LongData;
+    }
+    if !fits(room.len(), command, payload) {
+        return Written::ShortRoom;
     }
     let n = put_wire(room, 0, command, payload);
     Written::Length(n)
@@ -35,11 +38,32 @@ pub fn write_at(room: &mut [u8], start: usize, command: u16, payload: &[u8]) -> 
     if room.len() < start {
         return WrittenAt::NoFit;
     }
-    if room.len() - start < wire_len(command, payload) {
+    if !fits(room.len() - start, command, payload) {
         return WrittenAt::NoFit;
     }
     let n = put_wire(room, start, command, payload);
     WrittenAt::UpTo(n)
+}
+
+// How much room a frame takes.
+pub fn measure(command: u16, payload: &[u8]) -> Measured
+    ensures { λ r. ⌜ toldLength r ≡ measured command (now (payload .entry)) ⌝ }
+{
+    if DATA < payload.len() {
+        return Measured::LongData;
+    }
+    Measured::Length(wire_len(command, payload))
+}
+
+// Whether the wire form fits. Space for every byte of the frame doubled and the two ENDs is enough, and nothing is counted then.
+fn fits(space: usize, command: u16, payload: &[u8]) -> bool
+    requires { ⌜ length (now payload) ≤ maxData ⌝ }
+    ensures { λ r. ⌜ r ≡ leb (length (wire command (now (payload .entry)))) space ⌝ }
+{
+    if 2 * (payload.len() + AROUND) + 2 <= space {
+        return true;
+    }
+    wire_len(command, payload) <= space
 }
 
 // How long the wire form is.

@@ -5,8 +5,7 @@ use native.Mathlib.Omega.{arith}
 use lib.ListN.{length}
 use Rattle.line.specs.Wire.{escape}
 use Rattle.frame.specs.Frame.{headOf, wire}
-use Rattle.frame.specs.Writer.{check}
-use Rattle.frame.specs.Writer.{minRoom}
+use Rattle.frame.specs.Writer.{check, roomForAny}
 use Rattle.frame.specs.WireLaws.{wire-length, wire-fits}
 use borrow.Author.Needs.{needs}
 use Rattle.frame.proofs.writer.wire_len.Statement.{statement}
@@ -20,8 +19,8 @@ module _ (s : tie.Start) where
   abbrev payload : List ℕ
   payload = s .args .payload .now
 
-  -- the wire form fits the least room
-  fits : length (wire command payload) ≤ minRoom
+  -- the wire form fits the room for every frame
+  fits : length (wire command payload) ≤ roomForAny
   fits = wire-fits command payload (s .pre)
 
 -- the head, escaped

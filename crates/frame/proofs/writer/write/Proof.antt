@@ -1,27 +1,44 @@
-use Prim.Native.Nat.{_≤_}
-use mathlib.Core.Path.{refl, ap, _∙_}
+use Prim.Native.Nat.{ℕ, _≤_, _<_}
+use mathlib.Core.Path.{refl, sym, ap, _∙_}
+use mathlib.Core.List.{List}
 use native.Mathlib.Nat.{zero-add}
-use native.Mathlib.Omega.{arith}
 use lib.ListN.{length}
-use borrow.Author.Tests.{lt-ltb, le-ltb}
+use borrow.Author.Tests.{lt-ltb, le-ltb, leb-true, leb-false, not-true, not-false}
 use Rattle.memory.specs.WroteLaws.{front}
 use Rattle.frame.specs.Frame.{wire}
 use Rattle.frame.specs.Writer.{upTo, write}
-use Rattle.frame.specs.WireLaws.{wire-fits}
 use borrow.Author.Needs.{needs}
 use Rattle.frame.proofs.writer.write.Statement.{statement}
 use Rattle.frame.proofs.writer.write.Tie as tie
+
+-- the frame's wire form, and the room lent
+module _ (s : tie.Start) where
+  abbrev sent : List ℕ
+  sent = wire (s .args .command) (s .args .payload .now)
+
+  abbrev room : List ℕ
+  room = s .args .room .now
+
+-- what the test tells: the room is shorter than the wire form, or the wire form fits
+short : (c : tie.Then2) → let s : tie.Start = c .before .before .before .before .before in length (room s) < length (sent s)
+short c = leb-false _ _ (sym (c .before .fits2 .ensures) ∙ not-true _ (c .if2 .taken))
+
+fitting : (c : tie.Else2) → let s : tie.Start = c .before .before .before .before .before in length (sent s) ≤ length (room s)
+fitting c = leb-true _ _ (sym (c .before .fits2 .ensures) ∙ not-false _ (c .if2 .left))
 
 returns : tie.Need-returns
 unfolding write
 returns c = simp (lt-ltb _ _ (c .if1 .taken)) (record { answer = refl; room = refl })
 
+fits-requires : tie.Need-fits-requires
+fits-requires c κs = search needs
+
 returns-2 : tie.Need-returns-2
 unfolding write
-returns-2 c = simp (le-ltb _ _ (c .before .if1 .left), lt-ltb _ _ (c .if2 .taken)) (record { answer = refl; room = refl })
+returns-2 c = simp (le-ltb _ _ (c .before .before .if1 .left), lt-ltb _ _ (short c)) (record { answer = refl; room = refl })
 
 put-wire-requires : tie.Need-put-wire-requires
-put-wire-requires c κs = (c .before .if2 .left, omega (arith, wire-fits (c .before .before .before .before .before .args .command) (c .before .before .before .before .before .args .payload .now) (c .before .if2 .left)))
+put-wire-requires c κs = (c .before .before .before .if1 .left, rw zero-add (fitting (c .before)))
 
 same-length : tie.Need-same-length
 same-length c = search needs
@@ -30,8 +47,9 @@ returns-3 : tie.Need-returns-3
 unfolding write
 returns-3 c =
     let w = c .before .before .put-wire .ensures in
-    let h : length (wire (c .before .before .before .before .before .before .before .before .args .command) (c .before .before .before .before .before .before .before .before .args .payload .now)) ≤ length (c .before .before .before .before .before .before .before .before .args .room .now) = omega (arith, wire-fits (c .before .before .before .before .before .before .before .before .args .command) (c .before .before .before .before .before .before .before .before .args .payload .now) (c .before .before .before .before .if2 .left)) in
-    simp (le-ltb _ _ (c .before .before .before .before .before .if1 .left), le-ltb _ _ (c .before .before .before .before .if2 .left)) (record { answer = ap upTo (w .place ∙ zero-add _); room = w .content ∙ front (c .before .before .before .before .before .before .before .before .args .room .now) (wire (c .before .before .before .before .before .before .before .before .args .command) (c .before .before .before .before .before .before .before .before .args .payload .now)) h })
+    let s = c .before .before .before .before .before .before .before .before .before in
+    let h = fitting (c .before .before .before .before) in
+    simp (le-ltb _ _ (c .before .before .before .before .before .before .if1 .left), le-ltb _ _ h) (record { answer = ap upTo (w .place ∙ zero-add _); room = w .content ∙ front (room s) (sent s) h })
 
 pub write-spec : {M : Type 1} → statement M
-write-spec = tie.close (tie.spec returns returns-2 put-wire-requires same-length returns-3)
+write-spec = tie.close (tie.spec returns fits-requires returns-2 put-wire-requires same-length returns-3)
