@@ -1,4 +1,4 @@
-// Boundary cases of frames, run and held to the file stdout: the frame writer at its limits, each frame that it writes read back;
+// Boundary cases of frames, run and held to the file stdout: frames measured, the frame writer at its limits, each frame that it writes read back;
 // packets through their view, those that are accepted from the wire and through a lent record.
 ghost use mathlib.Core.Path.{_≡_};
 ghost use Rattle.frame.specs.Reader.{taken, read};
@@ -7,6 +7,7 @@ ghost use Rattle.frame.specs.Lent.{frameAnswer};
 use frame::FrameAnswer;
 use frame::FrameOutcome;
 use frame::FrameTold;
+use frame::Measured;
 use frame::Written;
 use frame::WrittenAt;
 use libc::STDOUT_FILENO;
@@ -33,6 +34,12 @@ const PAGE: usize = 2048;
 const FILLER: u8 = 0xA5;
 
 const WRITES: [u8; 8] = *b" writes ";
+
+const MEASURES: [u8; 10] = *b" measures ";
+
+const SPACE: [u8; 5] = *b"room ";
+
+const COMMA: [u8; 2] = *b", ";
 
 const UP_TO: [u8; 7] = *b" up to ";
 
@@ -108,9 +115,36 @@ fn show_right_room(name: &[u8], command: u16, b: u8, n: usize) {
     show_frame(name, &mut room, command, b, n);
 }
 
-fn show_short_room(name: &[u8], n: usize) {
-    let mut room = [FILLER; 511];
-    show_frame(name, &mut room, 0x0206, 0x55, n);
+// The same in room of `space` bytes.
+fn show_in(name: &[u8], space: usize, command: u16, b: u8, n: usize) {
+    let mut room = [FILLER; frame::ROOM];
+    if frame::ROOM < space {
+        return;
+    }
+    let mut page = [0u8; PAGE];
+    let end = text::append_numbered(&mut page, 0, &SPACE, space as u64, &COMMA);
+    print(&page, end);
+    show_frame(name, &mut room[0..space], command, b, n);
+}
+
+fn put_measured(out: &mut [u8], at: usize, answer: Measured) -> usize {
+    match answer {
+        Measured::Length(n) => text::append_numbered(out, at, &MEASURES, n as u64, &LINE_END),
+        Measured::LongData => put_refused(out, at, 10, &NOTHING),
+    }
+}
+
+// The room that a frame with n times the same data byte takes.
+fn show_measured(name: &[u8], command: u16, b: u8, n: usize) {
+    let payload = [b; 251];
+    if 251 < n {
+        return;
+    }
+    let mut page = [0u8; PAGE];
+    let answer = frame::measure(command, &payload[0..n]);
+    let title = text::append(&mut page, 0, name);
+    let end = put_measured(&mut page, title, answer);
+    print(&page, end);
 }
 
 fn put_place(out: &mut [u8], at: usize, answer: WrittenAt) -> usize {
@@ -153,9 +187,51 @@ fn show_more_frames() {
     show_right_room(b"251 data bytes", 0x0206, 0x55, 251);
 }
 
-fn show_limits() {
-    show_short_room(b"room 511, no data", 0);
-    show_short_room(b"room 511, 251 data bytes", 251);
+// Room of no byte, of one byte too few, of the wire form's length and of more.
+fn show_rooms() {
+    show_measured(b"P3", 0x0001, 0, 0);
+    show_in(b"P3", 0, 0x0001, 0, 0);
+    show_in(b"P3", 6, 0x0001, 0, 0);
+    show_in(b"P3", 7, 0x0001, 0, 0);
+    show_in(b"P3", 8, 0x0001, 0, 0);
+    show_in(b"P3", 11, 0x0001, 0, 0);
+    show_in(b"P3", 12, 0x0001, 0, 0);
+}
+
+// The same where bytes are escaped: data and check byte, the check byte alone, the length byte.
+fn show_escaped_rooms() {
+    show_measured(b"data C0, check byte C0", 0x0206, 0xC0, 1);
+    show_in(b"data C0, check byte C0", 8, 0x0206, 0xC0, 1);
+    show_in(b"data C0, check byte C0", 9, 0x0206, 0xC0, 1);
+    show_in(b"data C0, check byte C0", 10, 0x0206, 0xC0, 1);
+    show_in(b"data C0, check byte C0", 11, 0x0206, 0xC0, 1);
+    show_measured(b"check byte C0 alone", 0xC300, 0, 0);
+    show_in(b"check byte C0 alone", 7, 0xC300, 0, 0);
+    show_in(b"check byte C0 alone", 8, 0xC300, 0, 0);
+    show_in(b"check byte C0 alone", 9, 0xC300, 0, 0);
+    show_measured(b"length byte C0", 0x0206, 0x55, 189);
+    show_in(b"length byte C0", 196, 0x0206, 0x55, 189);
+    show_in(b"length byte C0", 197, 0x0206, 0x55, 189);
+}
+
+// The longest frames: 250 plain bytes, 216 and 250 that are doubled, and 251, whatever the room.
+fn show_long_rooms() {
+    show_in(b"250 data bytes", 256, 0xFFFF, 0x55, 250);
+    show_in(b"250 data bytes", 257, 0xFFFF, 0x55, 250);
+    show_measured(b"216 data bytes C0", 0xC0C0, 0xC0, 216);
+    show_in(b"216 data bytes C0", 442, 0xC0C0, 0xC0, 216);
+    show_in(b"216 data bytes C0", 443, 0xC0C0, 0xC0, 216);
+    show_measured(b"250 data bytes C0", 0xC0C0, 0xC0, 250);
+    show_in(b"250 data bytes C0", 508, 0xC0C0, 0xC0, 250);
+    show_in(b"250 data bytes C0", 509, 0xC0C0, 0xC0, 250);
+    show_in(b"250 data bytes C0", 511, 0xC0C0, 0xC0, 250);
+    show_in(b"250 data bytes C0", 512, 0xC0C0, 0xC0, 250);
+    show_measured(b"251 data bytes", 0x0206, 0x55, 251);
+    show_in(b"251 data bytes", 0, 0x0206, 0x55, 251);
+    show_in(b"251 data bytes", 511, 0x0206, 0x55, 251);
+}
+
+fn show_places() {
     show_at(4, 1);
     show_at(5, 1);
     show_at(13, 0);
@@ -284,7 +360,10 @@ fn show_empty_views() {
 fn main() {
     show_frames();
     show_more_frames();
-    show_limits();
+    show_rooms();
+    show_escaped_rooms();
+    show_long_rooms();
+    show_places();
     show_wires();
     show_refused_wires();
     show_empty_views();
