@@ -1,5 +1,5 @@
 -- Laws of the wire form.
-use Prim.Native.Nat.{ℕ, _+_, _*_, _≤_}
+use Prim.Native.Nat.{ℕ, _+_, _*_, _/_, _%_, _≤_}
 use mathlib.Core.Path.{_≡_, refl, sym, ap, _∙_}
 use mathlib.Core.List.{List, [], _∷_, _++_, append-assoc}
 use mathlib.Core.Bool.{Bool, true, false, cond}
@@ -10,9 +10,31 @@ use lib.Dec.{ltb}
 use borrow.Author.Tests.{ltb-false}
 use Rattle.line.specs.Wire.{END, escape}
 use Rattle.line.specs.WireLaws.{escape-append, escape-short}
-use Rattle.frame.specs.XorLaws.{xorAll-append}
+use Rattle.frame.specs.Xor.{_⊕_, xorAll}
+use Rattle.frame.specs.XorLaws.{⊕-assoc, ⊕-zero, zero-⊕, xorAll-append}
 use Rattle.frame.specs.Frame.{maxData, headOf, body, framed, wire}
 use Rattle.frame.specs.Writer.{roomForAny, shortRoom, longData, Writing, upTo, refused, noFit, Wire, write, writeAt, measured, check}
+
+-- ---- the parts
+
+escape-zero : escape (0 ∷ []) ≡ 0 ∷ []
+unfolding escape
+escape-zero = refl
+
+-- the bytes of a head, in the order in which they are written: the protocol byte goes as it is
+pub head-parts : (c n : ℕ) → escape (headOf c n) ≡ (0 ∷ []) ++ escape ((n + 3) ∷ []) ++ escape (c / 256 ∷ []) ++ escape (c % 256 ∷ [])
+head-parts c n =
+    escape-append (0 ∷ (n + 3) ∷ c / 256 ∷ []) (c % 256 ∷ [])
+    ∙ rw (escape-append (0 ∷ (n + 3) ∷ []) (c / 256 ∷ []), escape-append (0 ∷ []) ((n + 3) ∷ []), escape-zero)
+
+pub head-length : (c n : ℕ)
+    → length (escape (headOf c n)) ≡ 1 + length (escape ((n + 3) ∷ [])) + length (escape (c / 256 ∷ [])) + length (escape (c % 256 ∷ []))
+head-length c n = ap length (head-parts c n) ∙ simp length-append (omega arith)
+
+-- the check byte without the protocol byte, which changes nothing
+pub check-bytes : (c : ℕ) (d : List ℕ) → check c d ≡ (((length d + 3) ⊕ (c / 256)) ⊕ (c % 256)) ⊕ xorAll d
+unfolding xorAll
+check-bytes c d = ap (λ (x : ℕ). x ⊕ xorAll d) (rw (zero-⊕, ⊕-zero, ⊕-assoc))
 
 framed-parts : (c : ℕ) (d : List ℕ) → framed c d ≡ headOf c (length d) ++ d ++ check c d ∷ []
 unfolding framed body
@@ -37,7 +59,9 @@ wire-short c d =
 pub wire-fits : (c : ℕ) (d : List ℕ) → length d ≤ maxData → length (wire c d) ≤ roomForAny
 wire-fits c d h = omega (arith, wire-short c d)
 
--- what is written, by the two tests
+-- ---- what a call writes
+
+-- by the two tests
 abbrev by : List ℕ → ℕ → List ℕ → Bool → Bool → Wire
 by room c d long short =
     cond long (record { answer = refused longData; room = room })

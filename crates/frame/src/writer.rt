@@ -71,9 +71,7 @@ fn wire_len(command: u16, payload: &[u8]) -> usize
     requires { ⌜ length (now payload) ≤ maxData ⌝ }
     ensures { λ r. ⌜ r ≡ length (wire command (now (payload .entry))) ⌝ }
 {
-    let head = head_of(command, payload.len());
-    let check = [check_of(command, payload)];
-    escaped_len(&head) + escaped_len(payload) + escaped_len(&check) + 2
+    head_len(command, payload.len()) + escaped_len(payload) + width(check_of(command, payload)) + 2
 }
 
 // The wire form from `start` on, where it fits; the answer is the place behind it.
@@ -81,36 +79,43 @@ fn put_wire(room: &mut [u8], start: usize, command: u16, payload: &[u8]) -> usiz
     requires { ⌜ (length (now payload) ≤ maxData) × (start + length (wire command (now payload)) ≤ length (now room)) ⌝ }
     ensures { λ r. ⌜ Wrote (now (room .entry)) start (wire command (now (payload .entry))) (now (room .exit)) r ⌝ }
 {
-    let head = head_of(command, payload.len());
-    let check = [check_of(command, payload)];
+    let check = check_of(command, payload);
     room[start] = line::END;
-    let a = put_all(room, start + 1, &head);
+    let a = put_head(room, start + 1, command, payload.len());
     let b = put_all(room, a, payload);
-    let e = put_all(room, b, &check);
+    let e = put(room, b, check);
     room[e] = line::END;
     e + 1
 }
 
-// The check byte: the exclusive or of all bytes before it.
+// The check byte: the exclusive or of all bytes before it. The protocol byte 0 changes nothing.
 fn check_of(command: u16, payload: &[u8]) -> u8
     requires { ⌜ length (now payload) ≤ maxData ⌝ }
     ensures { λ r. ⌜ r ≡ check command (now (payload .entry)) ⌝ }
 {
-    let head = head_of(command, payload.len());
-    crate::checks::xor_all(&head) ^ crate::checks::xor_all(payload)
+    let len = (payload.len() + 3) as u8;
+    let high = (command / 256) as u8;
+    let low = (command % 256) as u8;
+    len ^ high ^ low ^ crate::checks::xor_all(payload)
 }
 
-// Protocol byte, length and command of a frame with n data bytes.
-fn head_of(command: u16, n: usize) -> [u8; crate::HEAD]
+// How many bytes the head of a frame with n data bytes is, escaped. The protocol byte 0 is never escaped.
+fn head_len(command: u16, n: usize) -> usize
     requires { ⌜ n ≤ maxData ⌝ }
-    ensures { λ r. ⌜ r ≡ headOf command n ⌝ }
+    ensures { λ r. ⌜ r ≡ length (escape (headOf command n)) ⌝ }
 {
-    [
-        0,
-        (n + 3) as u8,
-        (command / 256) as u8,
-        (command % 256) as u8,
-    ]
+    1 + width((n + 3) as u8) + width((command / 256) as u8) + width((command % 256) as u8)
+}
+
+// Protocol byte, length and command of a frame with n data bytes, escaped, from `start` on; the answer is the place behind them.
+fn put_head(room: &mut [u8], start: usize, command: u16, n: usize) -> usize
+    requires { ⌜ (n ≤ maxData) × (start + length (escape (headOf command n)) ≤ length (now room)) ⌝ }
+    ensures { λ r. ⌜ Wrote (now (room .entry)) start (escape (headOf command n)) (now (room .exit)) r ⌝ }
+{
+    room[start] = 0;
+    let a = put(room, start + 1, (n + 3) as u8);
+    let b = put(room, a, (command / 256) as u8);
+    put(room, b, (command % 256) as u8)
 }
 
 // How many bytes these are, escaped.

@@ -29,64 +29,51 @@ module _ (s : tie.Start) where
   fits = omega (arith, s .pre .1, wire-length command payload)
 
 -- what is written after each part
-wrote-head : (c : tie.After-put-all) → let s : tie.Start = c .before .before .before .before .before .before .before in Wrote (s .args .room .now) (s .args .start) ((END ∷ []) ++ escape (head s)) (c .put-all .last .0) (c .put-all .result)
-wrote-head c = then (one _ _ _) (rw (c .before .before .before .before .head-of .ensures) at (c .put-all .ensures))
+wrote-head : (c : tie.After-put-head) → let s : tie.Start = c .before .before .before .before .before in Wrote (s .args .room .now) (s .args .start) ((END ∷ []) ++ escape (head s)) (c .put-head .last .0) (c .put-head .result)
+wrote-head c = then (one _ _ _) (c .put-head .ensures)
 
-wrote-payload : (c : tie.After-put-all2)
-    → let s : tie.Start = c .before .before .before .before .before .before .before .before .before .before .before in Wrote (s .args .room .now) (s .args .start) ((END ∷ []) ++ escape (head s) ++ escape (payload s)) (c .put-all2 .last .0) (c .put-all2 .result)
-wrote-payload c = then (wrote-head (c .before .before .before .before)) (c .put-all2 .ensures)
+wrote-payload : (c : tie.After-put-all)
+    → let s : tie.Start = c .before .before .before .before .before .before .before .before .before in Wrote (s .args .room .now) (s .args .start) ((END ∷ []) ++ escape (head s) ++ escape (payload s)) (c .put-all .last .0) (c .put-all .result)
+wrote-payload c = then (wrote-head (c .before .before .before .before)) (c .put-all .ensures)
 
-wrote-check : (c : tie.After-put-all3)
-    → let s : tie.Start = c .before .before .before .before .before .before .before .before .before .before .before .before .before .before .before .before in
-    Wrote (s .args .room .now) (s .args .start) ((END ∷ []) ++ escape (head s) ++ escape (payload s) ++ escape (check (command s) (payload s) ∷ [])) (c .put-all3 .last .0) (c .put-all3 .result)
-wrote-check c = then (wrote-payload (c .before .before .before .before .before)) (rw (c .before .before .before .before .before .before .before .before .before .before .before .before .check-of .ensures) at (c .put-all3 .ensures))
-
-head-of-requires : tie.Need-head-of-requires
-head-of-requires c κs = search needs
+wrote-check : (c : tie.After-put)
+    → let s : tie.Start = c .before .before .before .before .before .before .before .before .before .before .before .before .before in
+    Wrote (s .args .room .now) (s .args .start) ((END ∷ []) ++ escape (head s) ++ escape (payload s) ++ escape (check (command s) (payload s) ∷ [])) (c .put .last .0) (c .put .result)
+wrote-check c = then (wrote-payload (c .before .before .before .before)) (rw (c .before .before .before .before .before .before .before .before .before .before .check-of .ensures) at (c .put .ensures))
 
 check-of-requires : tie.Need-check-of-requires
 check-of-requires c κs = search needs
 
 slice-write-room : tie.Need-slice-write-room
-slice-write-room c = omega (arith, fits (c .before .before .before .before))
+slice-write-room c = omega (arith, fits (c .before .before .before))
 
-add-put-all : tie.Need-add-put-all
-add-put-all c = search needs
+add-put-head : tie.Need-add-put-head
+add-put-head c = search needs
 
-slice-aggregate-put-all : tie.Need-slice-aggregate-put-all
-slice-aggregate-put-all c = search needs
+put-head-requires : tie.Need-put-head-requires
+put-head-requires c κs = (c .before .before .before .before .pre .0, simp length-set (omega (arith, fits (c .before .before .before .before))))
 
 put-all-requires : tie.Need-put-all-requires
 put-all-requires c κs =
-    let s = c .before .before .before .before .before .before in
-    let e : length (escape (c .before .before .before .head-of .result)) ≡ length (escape (head s)) = ap (λ (l : List ℕ). length (escape l)) (c .before .before .before .head-of .ensures) in
-    simp length-set (omega (arith, fits s))
-
-put-all-requires-2 : tie.Need-put-all-requires-2
-put-all-requires-2 c κs =
     let w = wrote-head (c .before .before .before) in
-    omega (arith, kept w, simp length-append at (w .place), fits (c .before .before .before .before .before .before .before .before .before .before))
+    omega (arith, kept w, simp length-append at (w .place), fits (c .before .before .before .before .before .before .before .before))
 
-slice-aggregate-put-all-2 : tie.Need-slice-aggregate-put-all-2
-slice-aggregate-put-all-2 c = search needs
-
-put-all-requires-3 : tie.Need-put-all-requires-3
-put-all-requires-3 c κs =
-    let s = c .before .before .before .before .before .before .before .before .before .before .before .before .before .before .before in
-    let x = c .before .before .before .before .before .before .before .before .before .before .before in
-    let w = wrote-payload (c .before .before .before .before) in
-    let e : length (escape (x .check-of .result ∷ [])) ≡ length (escape (check (command s) (payload s) ∷ [])) = ap (λ (n : ℕ). length (escape (n ∷ []))) (x .check-of .ensures) in
+put-requires : tie.Need-put-requires
+put-requires c κs =
+    let s = c .before .before .before .before .before .before .before .before .before .before .before .before in
+    let w = wrote-payload (c .before .before .before) in
+    let e : length (escape (c .before .before .before .before .before .before .before .before .before .check-of .result ∷ [])) ≡ length (escape (check (command s) (payload s) ∷ [])) = ap (λ (n : ℕ). length (escape (n ∷ []))) (c .before .before .before .before .before .before .before .before .before .check-of .ensures) in
     omega (arith, kept w, simp length-append at (w .place), fits s)
 
 slice-write-room-2 : tie.Need-slice-write-room-2
 slice-write-room-2 c =
     let w = wrote-check (c .before .before) in
-    omega (arith, kept w, simp length-append at (w .place), fits (c .before .before .before .before .before .before .before .before .before .before .before .before .before .before .before .before .before .before))
+    omega (arith, kept w, simp length-append at (w .place), fits (c .before .before .before .before .before .before .before .before .before .before .before .before .before .before .before))
 
 add-result : tie.Need-add-result
 add-result c =
     let w = wrote-check (c .before .before) in
-    omega (arith, kept w, simp length-append at (w .place), fits (c .before .before .before .before .before .before .before .before .before .before .before .before .before .before .before .before .before .before))
+    omega (arith, kept w, simp length-append at (w .place), fits (c .before .before .before .before .before .before .before .before .before .before .before .before .before .before .before))
 
 same-length : tie.Need-same-length
 same-length c = kept (then (wrote-check (c .before .before)) (one _ _ _))
@@ -98,15 +85,12 @@ pub put-wire-spec : {M : Type 1} → statement M
 put-wire-spec =
     tie.close
     (tie.spec
-    head-of-requires
     check-of-requires
     slice-write-room
-    add-put-all
-    slice-aggregate-put-all
+    add-put-head
+    put-head-requires
     put-all-requires
-    put-all-requires-2
-    slice-aggregate-put-all-2
-    put-all-requires-3
+    put-requires
     slice-write-room-2
     add-result
     same-length

@@ -4,7 +4,7 @@ use mathlib.Core.List.{List, [], _∷_}
 use native.Mathlib.Omega.{arith}
 use lib.ListN.{length}
 use Rattle.line.specs.Wire.{escape}
-use Rattle.frame.specs.Frame.{headOf, wire}
+use Rattle.frame.specs.Frame.{wire}
 use Rattle.frame.specs.Writer.{check, roomForAny}
 use Rattle.frame.specs.WireLaws.{wire-length, wire-fits}
 use borrow.Author.Needs.{needs}
@@ -23,53 +23,39 @@ module _ (s : tie.Start) where
   fits : length (wire command payload) ≤ roomForAny
   fits = wire-fits command payload (s .pre)
 
--- the head, escaped
-head-len : (c : tie.After-escaped-len) → let s : tie.Start = c .before .before .before .before .before in c .escaped-len .result ≡ length (escape (headOf (command s) (length (payload s))))
-head-len c = c .escaped-len .ensures ∙ ap (λ (l : List ℕ). length (escape l)) (c .before .before .before .head-of .ensures)
-
 -- the check byte, escaped
-check-len : (c : tie.After-escaped-len3) → let s : tie.Start = c .before .before .before .before .before .before .before .before in c .escaped-len3 .result ≡ length (escape (check (command s) (payload s) ∷ []))
-check-len c = c .escaped-len3 .ensures ∙ ap (λ (n : ℕ). length (escape (n ∷ []))) (c .before .before .before .before .before .check-of .ensures)
+check-len : (c : tie.After-width) → let s : tie.Start = c .before .before .before .before .before in c .width .result ≡ length (escape (check (command s) (payload s) ∷ []))
+check-len c = c .width .ensures ∙ ap (λ (n : ℕ). length (escape (n ∷ []))) (c .before .check-of .ensures)
 
 -- what the parts come to
-whole : (c : tie.After-escaped-len3)
-    → let s : tie.Start = c .before .before .before .before .before .before .before .before in
-    c .before .before .before .escaped-len .result + c .before .before .escaped-len2 .result + c .escaped-len3 .result + 2 ≡ length (wire (command s) (payload s))
+whole : (c : tie.After-width)
+    → let s : tie.Start = c .before .before .before .before .before in c .before .before .before .head-len .result + c .before .before .escaped-len .result + c .width .result + 2 ≡ length (wire (command s) (payload s))
 whole c =
-    let s = c .before .before .before .before .before .before .before .before in
-    omega (arith, head-len (c .before .before .before), c .before .before .escaped-len2 .ensures, check-len c, wire-length (command s) (payload s))
+    let s = c .before .before .before .before .before in
+    omega (arith, c .before .before .before .head-len .ensures, c .before .before .escaped-len .ensures, check-len c, wire-length (command s) (payload s))
 
-head-of-requires : tie.Need-head-of-requires
-head-of-requires c κs = search needs
-
-check-of-requires : tie.Need-check-of-requires
-check-of-requires c κs = search needs
-
-slice-aggregate-escaped-len : tie.Need-slice-aggregate-escaped-len
-slice-aggregate-escaped-len c = search needs
+head-len-requires : tie.Need-head-len-requires
+head-len-requires c κs = search needs
 
 escaped-len-requires : tie.Need-escaped-len-requires
 escaped-len-requires c κs = search needs
 
-escaped-len-requires-2 : tie.Need-escaped-len-requires-2
-escaped-len-requires-2 c κs = search needs
-
 add-result : tie.Need-add-result
 add-result c =
-    let s = c .before .before .before .before .before .before in
-    omega (arith, head-len (c .before), c .escaped-len2 .ensures, wire-length (command s) (payload s), fits s)
+    let s = c .before .before .before in
+    omega (arith, c .before .head-len .ensures, c .escaped-len .ensures, wire-length (command s) (payload s), fits s)
 
-slice-aggregate-escaped-len-2 : tie.Need-slice-aggregate-escaped-len-2
-slice-aggregate-escaped-len-2 c = search needs
+check-of-requires : tie.Need-check-of-requires
+check-of-requires c κs = search needs
 
-escaped-len-requires-3 : tie.Need-escaped-len-requires-3
-escaped-len-requires-3 c κs = search needs
+width-requires : tie.Need-width-requires
+width-requires c κs = search needs
 
 add-result-2 : tie.Need-add-result-2
-add-result-2 c = omega (arith, whole c, fits (c .before .before .before .before .before .before .before .before))
+add-result-2 c = omega (arith, whole c, fits (c .before .before .before .before .before))
 
 add-result-3 : tie.Need-add-result-3
-add-result-3 c = omega (arith, whole c, fits (c .before .before .before .before .before .before .before .before))
+add-result-3 c = omega (arith, whole c, fits (c .before .before .before .before .before))
 
 returns : tie.Need-returns
 returns c = whole c
@@ -78,14 +64,11 @@ pub wire-len-spec : {M : Type 1} → statement M
 wire-len-spec =
     tie.close
     (tie.spec
-    head-of-requires
-    check-of-requires
-    slice-aggregate-escaped-len
+    head-len-requires
     escaped-len-requires
-    escaped-len-requires-2
     add-result
-    slice-aggregate-escaped-len-2
-    escaped-len-requires-3
+    check-of-requires
+    width-requires
     add-result-2
     add-result-3
     returns)
