@@ -7,7 +7,7 @@ use crate::hub::commands::{
     SET_VARIATION, VIRGIN_STATE,
 };
 use crate::hub::nodes::TABLE;
-use crate::hub::ROOM_LEAST;
+use crate::hub::ROOM_ENOUGH;
 use crate::outcome::{DATA_MOST, END, ESC, ESC_END};
 use crate::replay::call::Call;
 use crate::sender::wire;
@@ -310,7 +310,7 @@ impl Tour {
     }
 
     fn feed(&mut self, line: u8, bytes: &[u8]) {
-        self.feed_lent(line, ROOM_LEAST, bytes, TABLE);
+        self.feed_lent(line, ROOM_ENOUGH, bytes, TABLE);
     }
 
     fn feed_lent(&mut self, line: u8, room: usize, bytes: &[u8], table: usize) {
@@ -385,7 +385,7 @@ impl Tour {
         self.part("feed: refusals 7, 8, 9 and their order; room 511, 512 and 8192");
         let bytes = &[END, 0, 3, 0];
         for table in [0, TABLE - 1, TABLE + 1] {
-            self.feed_lent(2, ROOM_LEAST, bytes, table);
+            self.feed_lent(2, ROOM_ENOUGH, bytes, table);
         }
         for line in [4, 255] {
             self.feed(line, bytes);

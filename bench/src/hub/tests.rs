@@ -25,7 +25,7 @@ impl Whole {
             hub: Hub::new(),
             table: vec![0xFF; TABLE],
             records: vec![Reader::new(); LINES],
-            room: vec![FILL; ROOM_LEAST],
+            room: vec![FILL; ROOM_ENOUGH],
         };
         whole.hub.start(&PASSWORD, &mut whole.table).unwrap();
         for node in (0..30).chain([199]) {
@@ -167,7 +167,7 @@ fn refusals_come_in_order() {
     } = Whole::ready();
     let mut long = vec![0; TABLE + 1];
     let record = &mut Reader::new();
-    let room = &mut [0; ROOM_LEAST];
+    let room = &mut [0; ROOM_ENOUGH];
     assert_eq!(given(hub.start(&PASSWORD, &mut table[1..])), Some(7));
     assert_eq!(given(hub.start(&PASSWORD, &mut long)), Some(7));
     assert_eq!(given(hub.start(&[0; 31], &mut [])), Some(7));
@@ -200,7 +200,7 @@ fn a_refused_call_changes_nothing() {
     whole.mode_send(0, 5, &[1]);
     whole.feed(2, &[END, 1, 2]);
     let before = whole.clone();
-    let room = &mut vec![FILL; ROOM_LEAST];
+    let room = &mut vec![FILL; ROOM_ENOUGH];
     let frame = wire(0x0108, &[]);
     assert!(whole.hub.start(&[0; 31], &mut whole.table).is_err());
     assert!(whole.hub.enrol(1, 9, &mut whole.table).is_err());
@@ -316,7 +316,7 @@ fn the_longest_reply_fits() {
     let mut whole = Whole::ready();
     whole.node_status(0x0208, &[&[7][..], &[END; 64]].concat());
     whole.node_status(0x020D, &[7, END, END, END]);
-    assert!(whole.ask(0, 0x0200, &[7]).len() <= ROOM_LEAST);
+    assert!(whole.ask(0, 0x0200, &[7]).len() <= ROOM_ENOUGH);
 }
 
 #[test]

@@ -1,7 +1,7 @@
 //! Writes a script and runs the model beside it.
 
 use crate::hub::nodes::TABLE;
-use crate::hub::{LINES, ROOM_LEAST};
+use crate::hub::{LINES, ROOM_ENOUGH};
 use crate::random::Random;
 use crate::replay::call::Call;
 use crate::replay::{Replay, Told, ROOM_BUFFER, TABLE_BUFFER};
@@ -111,16 +111,16 @@ impl Writer {
     }
 
     pub fn right_room(&mut self) -> usize {
-        let any = self.random.between(ROOM_LEAST, ROOM_BUFFER);
+        let any = self.random.between(ROOM_ENOUGH, ROOM_BUFFER);
         self.random
-            .pick(&[ROOM_LEAST, ROOM_LEAST, ROOM_BUFFER, any])
+            .pick(&[ROOM_ENOUGH, ROOM_ENOUGH, ROOM_BUFFER, any])
     }
 
     /// A room that is right half of the time.
     pub fn any_room(&mut self) -> usize {
-        let below = self.random.below(ROOM_LEAST);
+        let below = self.random.below(ROOM_ENOUGH);
         let right = self.right_room();
-        let wrong = self.random.pick(&[0, 1, ROOM_LEAST - 1, below]);
+        let wrong = self.random.pick(&[0, 1, ROOM_ENOUGH - 1, below]);
         self.random.pick(&[right, wrong])
     }
 
