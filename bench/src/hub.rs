@@ -105,7 +105,7 @@ impl Hub {
     /// The frame to write is known before the session is closed.
     pub fn finish(&mut self, session: u16, room: &mut [u8]) -> Result<Finished, Refusals> {
         let slot = self.sessions.slot_of(session);
-        let reply = sender::wire(SESSION_FINISHED, &session.to_be_bytes());
+        let reply = finished(session);
         Refusals::none_of(&[
             (CallRefusal::NotOpen, slot.is_none()),
             (CallRefusal::Room, reply.len() > room.len()),
@@ -164,6 +164,11 @@ impl Hub {
             record,
         }
     }
+}
+
+/// What finish writes.
+pub fn finished(session: u16) -> Vec<u8> {
+    sender::wire(SESSION_FINISHED, &session.to_be_bytes())
 }
 
 #[cfg(test)]
