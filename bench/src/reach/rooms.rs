@@ -171,11 +171,8 @@ impl Rooms {
                 }
                 watch.refuse(*line, bytes);
             }
-            (Call::Feed { room, bytes, .. }, Told::Fed(fed)) if fed.outcome.is_none() => {
-                if *room == 0 {
-                    rows.push(nothing_row(bytes));
-                }
-            }
+            (Call::Feed { room: 0, bytes, .. }, Told::Fed(_)) => rows.push(nothing_row(bytes)),
+            (Call::Feed { .. }, Told::Fed(fed)) if fed.outcome.is_none() => {}
             (
                 Call::Feed {
                     line, room, bytes, ..
