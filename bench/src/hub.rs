@@ -14,12 +14,13 @@ use crate::plain::Reader;
 use crate::sender;
 use commands::SESSION_FINISHED;
 use refusals::{CallRefusal, Refusals};
+use serve::{Change, Served};
 use sessions::Sessions;
 
 pub const LINES: usize = 4;
 pub const PASSWORD: usize = 32;
-/// The least room that a call is lent for its reply.
-pub const ROOM_LEAST: usize = 512;
+/// Room that every reply fits.
+pub const ROOM_ENOUGH: usize = 512;
 
 #[derive(Clone, Debug, PartialEq, Eq)]
 pub struct Hub {
@@ -36,6 +37,17 @@ pub struct Fed {
     pub reply: usize,
     /// What the hub did, in words that a tally counts.
     pub remarks: Vec<&'static str>,
+}
+
+/// What a feed comes to if its reply fits. Nothing is changed yet.
+pub struct Coming {
+    pub used: usize,
+    pub outcome: Option<Outcome>,
+    pub reply: Vec<u8>,
+    pub remarks: Vec<&'static str>,
+    change: Change,
+    /// The record as the feed leaves it.
+    record: Reader,
 }
 
 /// What finish tells.
@@ -90,14 +102,15 @@ impl Hub {
         Ok(())
     }
 
+    /// The frame to write is known before the session is closed.
     pub fn finish(&mut self, session: u16, room: &mut [u8]) -> Result<Finished, Refusals> {
         let slot = self.sessions.slot_of(session);
+        let reply = finished(session);
         Refusals::none_of(&[
-            (CallRefusal::Room, room.len() < ROOM_LEAST),
             (CallRefusal::NotOpen, slot.is_none()),
+            (CallRefusal::Room, reply.len() > room.len()),
         ])?;
         let line = slot.map_or(0, |slot| self.sessions.close(slot));
-        let reply = sender::wire(SESSION_FINISHED, &session.to_be_bytes());
         room[..reply.len()].copy_from_slice(&reply);
         Ok(Finished {
             line,
@@ -105,7 +118,8 @@ impl Hub {
         })
     }
 
-    /// Reads up to the first outcome and serves it.
+    /// Reads up to the first outcome and serves it, if the reply fits the
+    /// room.
     pub fn feed(
         &mut self,
         line: u8,
@@ -117,23 +131,44 @@ impl Hub {
         Refusals::none_of(&[
             (CallRefusal::Table, table.len() != nodes::TABLE),
             (CallRefusal::Line, usize::from(line) >= LINES),
-            (CallRefusal::Room, room.len() < ROOM_LEAST),
         ])?;
+        let coming = self.coming(line, bytes, table, record);
+        let reply = coming.reply.len();
+        Refusals::none_of(&[(CallRefusal::Room, reply > room.len())])?;
+        self.make(coming.change, table);
+        *record = coming.record;
+        room[..reply].copy_from_slice(&coming.reply);
+        Ok(Fed {
+            used: coming.used,
+            outcome: coming.outcome,
+            reply,
+            remarks: coming.remarks,
+        })
+    }
+
+    /// What a feed of a right table on a line up to 3 comes to. All that is
+    /// lent is only looked at; a copy of the record takes the bytes.
+    pub fn coming(&self, line: u8, bytes: &[u8], table: &[u8], record: &Reader) -> Coming {
+        let mut record = record.clone();
         let (used, outcome) = record.read(bytes);
-        let mut fed = Fed {
+        let served = match outcome {
+            Some(outcome) => self.serve(table, line, outcome, &record),
+            None => Served::nothing(),
+        };
+        Coming {
             used,
             outcome,
-            reply: 0,
-            remarks: Vec::new(),
-        };
-        if let Some(outcome) = outcome {
-            let served = self.serve(table, line, outcome, record);
-            room[..served.reply.len()].copy_from_slice(&served.reply);
-            fed.reply = served.reply.len();
-            fed.remarks = served.remarks;
+            reply: served.reply,
+            remarks: served.remarks,
+            change: served.change,
+            record,
         }
-        Ok(fed)
     }
+}
+
+/// What finish writes.
+pub fn finished(session: u16) -> Vec<u8> {
+    sender::wire(SESSION_FINISHED, &session.to_be_bytes())
 }
 
 #[cfg(test)]

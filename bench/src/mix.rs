@@ -18,7 +18,7 @@ use std::error::Error;
 use std::io::{self, BufRead, Write};
 
 use crate::hub::nodes::TABLE;
-use crate::hub::{LINES, ROOM_LEAST};
+use crate::hub::{LINES, ROOM_ENOUGH};
 use crate::plain::Reader;
 use crate::replay::call::{self, is_remark, Call};
 use socat::Block;
@@ -121,7 +121,7 @@ fn feeds(line: u8, bytes: &[u8], records: &mut [Reader; LINES]) -> Vec<Call> {
         };
         feeds.push(Call::Feed {
             line,
-            room: ROOM_LEAST,
+            room: ROOM_ENOUGH,
             bytes: lent.to_vec(),
             table: TABLE,
         });

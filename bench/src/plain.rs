@@ -58,6 +58,12 @@ impl Reader {
         self.mode == Mode::Taking && self.count == 0
     }
 
+    /// Whether all bytes are the same, those not held too.
+    #[cfg(test)]
+    pub fn same_bytes(&self, other: &Reader) -> bool {
+        (self.held, self.count, self.mode) == (other.held, other.count, other.mode)
+    }
+
     /// Takes bytes up to the first outcome, and tells how many were used.
     pub fn read(&mut self, bytes: &[u8]) -> (usize, Option<Outcome>) {
         for (place, &byte) in bytes.iter().enumerate() {

@@ -1,6 +1,8 @@
 //! What scripts reach: calls, refusals, statuses and bad lines, counted by
 //! the model while it answers.
 
+pub mod rooms;
+
 use std::collections::{BTreeMap, BTreeSet, HashMap};
 use std::fmt;
 
@@ -9,15 +11,17 @@ use crate::hub::nodes::{self, NAME, TABLE};
 use crate::hub::sessions::SLOTS;
 use crate::hub::LINES;
 use crate::outcome::{Outcome, DATA_MOST};
+use crate::plain::Reader;
 use crate::replay::call::{bad_words, Bad, BadWord, Call, LINE_MOST};
 use crate::replay::lines;
-use crate::replay::{mode_name, Replay, Told, ROOM_BUFFER};
+use crate::replay::{mode_name, Replay, Told};
+use rooms::Rooms;
 
 /// Unknown numbers that must be sent in all.
 pub const UNKNOWN_LEAST: usize = 1000;
 
-/// Everything that is counted, bad words apart.
-const ROWS: [&str; 131] = [
+/// Everything that is counted, bad words and rooms apart.
+const ROWS: [&str; 126] = [
     "start done",
     "start refused 7",
     "start refused 14",
@@ -33,7 +37,7 @@ const ROWS: [&str; 131] = [
     "finish done",
     "finish refused 9",
     "finish refused 13",
-    "finish refused 9 before 13",
+    "finish refused 13 before 9",
     "feed refused 7",
     "feed refused 8",
     "feed refused 9",
@@ -46,11 +50,6 @@ const ROWS: [&str; 131] = [
     "table one byte long",
     "table shorter",
     "table longer",
-    "room 0",
-    "room 511",
-    "room 512",
-    "room above 512",
-    "room 8192",
     "node 199 enrolled",
     "node 200 refused",
     "feed: no bytes",
@@ -157,6 +156,7 @@ type Sent = (u16, usize, bool);
 #[derive(Clone)]
 pub struct Reach {
     counts: HashMap<&'static str, u64>,
+    rooms: Rooms,
     bad_words: BTreeMap<BadWord, u64>,
     sent: BTreeSet<Sent>,
     unknown: BTreeSet<u16>,
@@ -168,7 +168,8 @@ pub struct Reach {
 impl Default for Reach {
     fn default() -> Self {
         Reach {
-            counts: ROWS.into_iter().map(|row| (row, 0)).collect(),
+            counts: all_rows().map(|row| (row, 0)).collect(),
+            rooms: Rooms::default(),
             bad_words: bad_words().into_iter().map(|word| (word, 0)).collect(),
             sent: BTreeSet::new(),
             unknown: BTreeSet::new(),
@@ -177,6 +178,10 @@ impl Default for Reach {
             bytes: 0,
         }
     }
+}
+
+fn all_rows() -> impl Iterator<Item = &'static str> {
+    ROWS.into_iter().chain(rooms::ROWS)
 }
 
 /// The data lengths to try with a command: its least and its greatest, and
@@ -205,6 +210,7 @@ impl Reach {
     pub fn answer(&mut self, script: &[u8]) -> Vec<u8> {
         let mut replay = Replay::new();
         let mut watch = Watch::default();
+        let mut room_watch = rooms::Watch::default();
         let mut answers = Vec::new();
         let mut last = Told::Remark;
         for line in lines::all(script) {
@@ -214,8 +220,11 @@ impl Reach {
             self.count_line(&line, &last);
             if let (Ok(call), told) = (Call::parse(&line), &last) {
                 self.count_lent(&call);
-                self.count_told(&call, told);
+                self.count_told(&call, told, &replay);
                 self.count_state(&call, told, &replay, &mut watch);
+                for row in self.rooms.count(&call, told, &replay, &mut room_watch) {
+                    self.count(row);
+                }
             }
         }
         if !script.is_empty() && !script.ends_with(b"\n") {
@@ -272,21 +281,18 @@ impl Reach {
             }
         }
         if let Call::Feed { room, .. } | Call::Finish { room, .. } = call {
-            match *room {
-                0 => self.count("room 0"),
-                511 => self.count("room 511"),
-                512 => self.count("room 512"),
-                ROOM_BUFFER => self.count("room 8192"),
-                513.. => self.count("room above 512"),
-                _ => {}
-            }
+            self.count(rooms::room_row(*room));
         }
     }
 
-    fn count_told(&mut self, call: &Call, told: &Told) {
+    fn count_told(&mut self, call: &Call, told: &Told, after: &Replay) {
         match told {
             Told::Refused(refusals) => {
-                let numbers: Vec<_> = refusals.all().iter().map(u32::to_string).collect();
+                let mut numbers = refusals.all();
+                if refusals.given() != 9 && is_short(call, after) {
+                    numbers.push(9);
+                }
+                let numbers: Vec<_> = numbers.iter().map(u32::to_string).collect();
                 self.count(&format!(
                     "{} refused {}",
                     call.word(),
@@ -410,6 +416,7 @@ impl Reach {
         for (row, count) in &other.counts {
             *self.counts.entry(row).or_default() += count;
         }
+        self.rooms.add(&other.rooms);
         for (word, count) in &other.bad_words {
             *self.bad_words.entry(*word).or_default() += count;
         }
@@ -422,10 +429,11 @@ impl Reach {
 
     /// The rows that were never reached.
     pub fn missing_rows(&self) -> Vec<String> {
-        let rows = ROWS.iter().filter(|row| self.counts[*row] == 0);
+        let rows = all_rows().filter(|row| self.counts[row] == 0);
         let words = self.bad_words.iter().filter(|(_, count)| **count == 0);
         let named = |(word, _): (&BadWord, _)| format!("{}: {}", place(word), word.why.name());
-        rows.map(ToString::to_string)
+        rows.map(str::to_string)
+            .chain(self.rooms.missing())
             .chain(words.map(named))
             .collect()
     }
@@ -442,6 +450,19 @@ impl Reach {
         }
         missing
     }
+}
+
+/// Whether a refused feed has too short a room as well.
+fn is_short(call: &Call, replay: &Replay) -> bool {
+    let Call::Feed {
+        line, room, bytes, ..
+    } = call
+    else {
+        return false;
+    };
+    let emptied = Reader::new();
+    let record = replay.records.get(usize::from(*line)).unwrap_or(&emptied);
+    rooms::is_short_for_all(*room, bytes, record)
 }
 
 /// What a line is: a call, a remark, or bad.
@@ -517,12 +538,14 @@ fn freer(call: &Call, told: &Told) -> &'static str {
     }
 }
 
-/// A line for each row and for each place of a bad word, and what was sent of the directory.
+/// A line for each row, for each kind of reply with its rooms and for each
+/// place of a bad word, and what was sent of the directory.
 impl fmt::Display for Reach {
     fn fmt(&self, out: &mut fmt::Formatter) -> fmt::Result {
-        for row in ROWS {
+        for row in all_rows() {
             writeln!(out, "{:>9}  {row}", self.counts[row])?;
         }
+        write!(out, "{}", self.rooms)?;
         let mut places: BTreeMap<(&str, usize), Vec<(&BadWord, u64)>> = BTreeMap::new();
         for (word, &count) in &self.bad_words {
             let words = places.entry((word.call, word.number)).or_default();

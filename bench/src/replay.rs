@@ -11,7 +11,7 @@ use std::io::{self, Read, Write};
 
 use crate::hub::nodes::{self, KIND, NAME, NODES, ORDER, PLACEMENT, TABLE, VARIATION};
 use crate::hub::refusals::Refusals;
-use crate::hub::{Fed, Finished, Hub, LINES};
+use crate::hub::{Coming, Fed, Finished, Hub, LINES};
 use crate::outcome::{Outcome, Refusal};
 use crate::plain::{Mode, Reader};
 use call::{is_remark, Bad, Call};
@@ -67,6 +67,17 @@ impl Replay {
     /// The part of the table buffer that is a right table.
     pub fn table(&self) -> &[u8] {
         &self.table[..TABLE]
+    }
+
+    /// The first bytes of the reply buffer, as the last call left them.
+    pub fn written(&self, count: usize) -> &[u8] {
+        &self.room[..count]
+    }
+
+    /// What a feed of a line up to 3 comes to if its reply fits.
+    pub fn coming(&self, line: u8, bytes: &[u8]) -> Option<Coming> {
+        let record = self.records.get(usize::from(line))?;
+        Some(self.hub.coming(line, bytes, self.table(), record))
     }
 
     /// Takes one line of a script and writes its answer.

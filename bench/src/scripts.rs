@@ -8,6 +8,7 @@ pub mod damage;
 pub mod host;
 pub mod load;
 pub mod requests;
+pub mod rooms;
 pub mod writer;
 
 use std::fmt;
@@ -52,12 +53,14 @@ pub enum Kind {
     Bad,
     /// Nodes with names of all kinds of bytes, listed.
     Names,
+    /// Rooms around the length of the reply.
+    Rooms,
     /// All of these.
     Mixed,
 }
 
 impl Kind {
-    pub const ALL: [Kind; 9] = [
+    pub const ALL: [Kind; 10] = [
         Kind::Directory,
         Kind::Unknown,
         Kind::Requests,
@@ -66,6 +69,7 @@ impl Kind {
         Kind::Calls,
         Kind::Bad,
         Kind::Names,
+        Kind::Rooms,
         Kind::Mixed,
     ];
 
@@ -79,6 +83,7 @@ impl Kind {
             Kind::Calls => "calls",
             Kind::Bad => "bad",
             Kind::Names => "names",
+            Kind::Rooms => "rooms",
             Kind::Mixed => "mixed",
         }
     }
@@ -217,6 +222,7 @@ fn step(writer: &mut Writer, kind: Kind) {
         Kind::Calls => host::any_call(writer),
         Kind::Bad => bad::some(writer),
         Kind::Names => names(writer),
+        Kind::Rooms => rooms::some(writer),
         Kind::Mixed | Kind::Directory | Kind::Unknown => {
             let kinds = [
                 Kind::Requests,
@@ -224,6 +230,7 @@ fn step(writer: &mut Writer, kind: Kind) {
                 Kind::Wire,
                 Kind::Bad,
                 Kind::Names,
+                Kind::Rooms,
             ];
             let other = writer.random.pick(&kinds);
             step(writer, other);

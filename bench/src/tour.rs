@@ -7,7 +7,7 @@ use crate::hub::commands::{
     SET_VARIATION, VIRGIN_STATE,
 };
 use crate::hub::nodes::TABLE;
-use crate::hub::ROOM_LEAST;
+use crate::hub::ROOM_ENOUGH;
 use crate::outcome::{DATA_MOST, END, ESC, ESC_END};
 use crate::replay::call::Call;
 use crate::sender::wire;
@@ -60,6 +60,10 @@ pub fn parts() -> Vec<Part> {
     tour.remarks();
     tour.bad_lines();
     tour.good_lines();
+    tour.rooms();
+    tour.rooms_of_sessions();
+    tour.rooms_of_get();
+    tour.refused_for_room();
     tour.parts
 }
 
@@ -310,7 +314,7 @@ impl Tour {
     }
 
     fn feed(&mut self, line: u8, bytes: &[u8]) {
-        self.feed_lent(line, ROOM_LEAST, bytes, TABLE);
+        self.feed_lent(line, ROOM_ENOUGH, bytes, TABLE);
     }
 
     fn feed_lent(&mut self, line: u8, room: usize, bytes: &[u8], table: usize) {
@@ -382,25 +386,26 @@ impl Tour {
     }
 
     fn refused_feeds(&mut self) {
-        self.part("feed: refusals 7, 8, 9 and their order; room 511, 512 and 8192");
-        let bytes = &[END, 0, 3, 0];
+        self.part("feed: refusals 7, 8, 9 and their order; room 0, 7 and 8 for an error reply");
+        // P12: the line is not logged in.
+        let bytes = &[END, 0, 3, 0, 8, 0x0B, END];
         for table in [0, TABLE - 1, TABLE + 1] {
-            self.feed_lent(2, ROOM_LEAST, bytes, table);
+            self.feed_lent(2, ROOM_ENOUGH, bytes, table);
         }
         for line in [4, 255] {
             self.feed(line, bytes);
         }
-        for room in [0, 511] {
+        for room in [0, 7] {
             self.feed_lent(2, room, bytes, TABLE);
         }
         self.feed_lent(4, 512, bytes, 0);
-        self.feed_lent(2, 511, bytes, 0);
-        self.feed_lent(4, 511, bytes, TABLE);
-        self.feed_lent(4, 511, bytes, 0);
-        self.feed_lent(2, 511, &[], TABLE);
+        self.feed_lent(2, 0, bytes, 0);
+        self.feed_lent(4, 0, bytes, TABLE);
+        self.feed_lent(4, 0, bytes, 0);
+        self.feed_lent(2, 0, &[], TABLE);
         self.show();
-        self.feed_lent(2, 512, bytes, TABLE);
-        self.feed_lent(2, 8192, &[8, 0x0B, END], TABLE);
+        self.feed_lent(2, 0, &bytes[..4], TABLE);
+        self.feed_lent(2, 8, &bytes[4..], TABLE);
     }
 
     fn rows(&mut self) {
@@ -600,14 +605,14 @@ impl Tour {
     }
 
     fn finishes(&mut self) {
-        self.part("finish: 0102, refusals 9 and 13; its slot and nodes are used again");
+        self.part("finish: 0102, refusals 13 and 9; its slot and nodes are used again");
         // A refused packet closes nothing.
         self.feed(0, ROWS[10].wire);
-        self.finish(0x0102, 511);
-        self.finish(0x0102, 512);
-        self.finish(0x0102, 512);
+        self.finish(0x0102, 8);
+        self.finish(0x0102, 9);
+        self.finish(0x0102, 9);
         self.finish(0x0102, 0);
-        self.finish(0xC0DB, 1024);
+        self.finish(0xC0DB, 11);
         self.show();
         self.mode_send(2, ModeSend::of(0x0102, &[1, 2]));
         self.show();
@@ -695,6 +700,107 @@ impl Tour {
         self.line("finish abcd 512");
         self.show();
     }
+
+    /// One packet with rooms one byte short, exact and one byte more. The
+    /// first is refused; the others are served.
+    fn rooms_for(&mut self, line: u8, bytes: &[u8], reply: usize) {
+        for room in [reply - 1, reply, reply + 1] {
+            self.feed_lent(line, room, bytes, TABLE);
+        }
+    }
+
+    /// The same for a request.
+    fn rooms_of(&mut self, line: u8, command: u16, data: &[u8], reply: usize) {
+        self.rooms_for(line, &wire(command, data), reply);
+    }
+
+    fn rooms(&mut self) {
+        self.part("rooms one byte short (refused 9), exact, one more: each error, password and node reply");
+        self.start(&PASSWORD, TABLE);
+        for node in 1..9 {
+            self.enrol(node, 0x0080);
+        }
+        self.enrol(0xC0, 0xC0DB);
+        self.enrol(0xC1, 0x0080);
+        self.rooms_of(0, 0x0008, &[], 8);
+        self.rooms_of(0, 0x0005, &[], 8);
+        self.rooms_for(0, ROWS[10].wire, 8);
+        self.rooms_of(0, PASSWORD_ENTER, &OTHER_TAIL, 8);
+        self.rooms_of(0, PASSWORD_ENTER, &PASSWORD, 8);
+        self.rooms_of(0, PASSWORD_CHANGE, &[OTHER_TAIL, PASSWORD].concat(), 8);
+        self.rooms_of(0, PASSWORD_CHANGE, &[PASSWORD, PASSWORD].concat(), 8);
+        // Nodes C0 and DB are escaped; DB is above 199. The check byte comes to
+        // C0 for node C1 with status 1, and for node C0 with a variation.
+        let name = |node| [&[node][..], &[END; 64]].concat();
+        self.rooms_of(0, SET_NAME, &name(0xC0), 10);
+        self.rooms_of(0, SET_NAME, &name(0xDB), 10);
+        self.rooms_of(0, SET_ORDER, &[0xC0, END, ESC, END], 10);
+        self.rooms_of(0, SET_ORDER, &[0xDB, END, ESC, END], 10);
+        self.rooms_of(0, GET_NODE, &[0xDB], 10);
+        self.rooms_of(0, SET_VARIATION, &[0xDB, 4], 10);
+        self.rooms_of(0, SET_VARIATION, &[0xC1, 5], 10);
+        self.rooms_of(0, SET_VARIATION, &[0xC0, 4], 11);
+        self.rooms_of(0, REMOVE_NODES, &bits(&[0xC1]), 8);
+    }
+
+    fn rooms_of_sessions(&mut self) {
+        self.part("rooms of mode send 0, 1, 3, 4, 5 and of finish; refusal 13 with short rooms");
+        let send = |session, node| ModeSend::of(session, &[node]).data();
+        self.rooms_of(0, MODE_SEND, &send(0xC0DB, 200), 12);
+        self.feed_lent(0, 11, &wire(MODE_SEND, &send(0xC0DB, 1)), TABLE);
+        self.show();
+        self.feed_lent(0, 12, &wire(MODE_SEND, &send(0xC0DB, 1)), TABLE);
+        self.rooms_of(0, MODE_SEND, &send(0xC0DB, 2), 12);
+        self.rooms_of(0, MODE_SEND, &send(0xDBC0, 1), 12);
+        for session in 2..9 {
+            let room = if session == 2 { 11 } else { 10 };
+            let data = send(session, session as u8);
+            self.feed_lent(0, room, &wire(MODE_SEND, &data), TABLE);
+        }
+        self.rooms_of(0, MODE_SEND, &send(0xDBC0, 1), 12);
+        for room in [0, 8, 9, 10, 11] {
+            self.finish(0xDBC0, room);
+            self.finish(0xC0DB, room);
+        }
+        for (session, room) in [(2, 0), (2, 8), (2, 10), (3, 300), (4, 511), (5, 512)] {
+            self.finish(session, room);
+        }
+        self.show();
+    }
+
+    fn rooms_of_get(&mut self) {
+        self.part(
+            "rooms of get: both frames or none; the longest reply has 211 bytes, the shortest 7",
+        );
+        for room in [
+            0, 7, 8, 9, 10, 140, 210, 211, 212, 300, 400, 511, 512, 513, 8192,
+        ] {
+            self.feed_lent(0, room, &wire(GET_NODE, &[0xC0]), TABLE);
+        }
+        for room in [130, 139, 140, 141] {
+            self.feed_lent(0, room, &wire(GET_NODE, &[1]), TABLE);
+        }
+        self.rooms_of(0, VIRGIN_STATE, &[], 7);
+        self.show();
+    }
+
+    fn refused_for_room(&mut self) {
+        self.part(
+            "refused 9: reading states stay, other lines go on; nothing to write needs no room",
+        );
+        for before in [&[END, 1, 2][..], &[END, 1, ESC], &[END, ESC, 0], &[1; 256]] {
+            self.feed_lent(1, 0, before, TABLE);
+            self.feed_lent(1, 0, &[END, END], TABLE);
+            self.feed_lent(1, 7, &[END, END], TABLE);
+            self.show();
+            self.enter(0, &OTHER_TAIL);
+            self.feed_lent(1, 8, &[END, END], TABLE);
+        }
+        for bytes in [&[][..], &[END], &[END; 3], &[END, 0, 3, 0]] {
+            self.feed_lent(1, 0, bytes, TABLE);
+        }
+        self.show();
+    }
 }
 
 #[cfg(test)]
@@ -728,7 +834,7 @@ mod tests {
 
     #[test]
     fn the_script_is_short() {
-        assert!(script().lines().count() < 550);
+        assert!(script().lines().count() < 650);
         assert!(script().lines().all(|line| line.len() < 1200));
     }
 }

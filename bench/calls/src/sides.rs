@@ -1,7 +1,7 @@
 //! The two sides: the static library `rounds`, and the second hub. Each logs
 //! line 0 in on a hub before any start, then makes the row's calls in rounds.
 
-use bench::hub::{Hub, ROOM_LEAST};
+use bench::hub::{Hub, ROOM_ENOUGH};
 use bench::plain::Reader;
 
 use crate::rows::{self, Row};
@@ -61,7 +61,7 @@ impl Side {
     /// Makes the calls of a row so many times.
     pub fn make(self, row: &Row, rounds: u64) -> Left {
         let mut table = rows::table();
-        let mut room = vec![0; ROOM_LEAST];
+        let mut room = vec![0; ROOM_ENOUGH];
         let login = rows::login();
         let reply = match self {
             Side::Hub => hub(row, &login, &mut table, &mut room, rounds),

@@ -11,8 +11,19 @@ pub enum CallRefusal {
     Password = 14,
 }
 
+/// The order in which they are judged: 9 comes last.
+const ORDER: [CallRefusal; 7] = [
+    CallRefusal::Table,
+    CallRefusal::Line,
+    CallRefusal::Node,
+    CallRefusal::InUse,
+    CallRefusal::NotOpen,
+    CallRefusal::Password,
+    CallRefusal::Room,
+];
+
 /// All refusals that apply to a call, a bit for each number. Where there are
-/// several, the least is given.
+/// several, the first in order is given.
 #[derive(Clone, Copy, Debug, PartialEq, Eq)]
 pub struct Refusals(u16);
 
@@ -32,11 +43,13 @@ impl Refusals {
 
     /// The number that is given.
     pub fn given(self) -> u32 {
-        self.0.trailing_zeros()
+        self.all()[0]
     }
 
-    /// The numbers that apply, ascending.
+    /// The numbers that apply, in order.
     pub fn all(self) -> Vec<u32> {
-        (0..16).filter(|number| self.0 >> number & 1 == 1).collect()
+        let numbers = ORDER.map(|refusal| refusal as u32);
+        let applies = |number: &u32| self.0 >> number & 1 == 1;
+        numbers.into_iter().filter(applies).collect()
     }
 }

@@ -1,4 +1,10 @@
 //! What the hub does with an outcome: error replies and the nine requests.
+//!
+//! A request is served in two steps. First its reply and the change that it
+//! makes are told from the state as it is; then, if the reply fits the room,
+//! the change is made.
+
+use std::ops::Range;
 
 use super::commands::*;
 use super::nodes::{self, KIND, NAME, NODES, ORDER, PLACEMENT, VARIATION};
@@ -24,18 +30,52 @@ const INVALID_NODE: u8 = 2;
 
 const VARIATION_MOST: u8 = 4;
 
-/// The reply on the wire, and what was done.
+/// Order and placement stand side by side.
+const ORDER_AND_PLACEMENT: Range<usize> = ORDER.start..PLACEMENT + 1;
+
+/// What a request changes.
+pub enum Change {
+    Nothing,
+    /// This line is logged in.
+    Login(u8),
+    Password([u8; PASSWORD]),
+    /// A field of a node's record.
+    Field(u8, Range<usize>, Vec<u8>),
+    /// These nodes are no longer in use, and sessions with them close.
+    Remove(Vec<u8>),
+    /// No node is in use, no session open.
+    Virgin,
+    /// A slot takes a session.
+    Open(usize, Session),
+}
+
+/// The reply on the wire, what the request changes, and remarks for a tally.
 pub struct Served {
     pub reply: Vec<u8>,
+    pub change: Change,
     pub remarks: Vec<&'static str>,
 }
 
 impl Served {
+    /// No outcome: nothing to write, nothing to change.
+    pub fn nothing() -> Self {
+        Served {
+            reply: Vec::new(),
+            change: Change::Nothing,
+            remarks: Vec::new(),
+        }
+    }
+
     fn new(command: u16, data: &[u8], remark: &'static str) -> Self {
         Served {
             reply: sender::wire(command, data),
+            change: Change::Nothing,
             remarks: vec![remark],
         }
+    }
+
+    fn changing(self, change: Change) -> Self {
+        Served { change, ..self }
     }
 
     fn error(byte: u8, remark: &'static str) -> Self {
@@ -51,8 +91,8 @@ impl Hub {
     /// Judges an outcome in the paper's order. The data of a frame is still
     /// in the record.
     pub(super) fn serve(
-        &mut self,
-        table: &mut [u8],
+        &self,
+        table: &[u8],
         line: u8,
         outcome: Outcome,
         record: &Reader,
@@ -78,57 +118,76 @@ impl Hub {
             SET_NAME => set_name(table, data[0], &data[1..]),
             SET_ORDER => set_order(table, data[0], &data[1..]),
             REMOVE_NODES => self.remove(table, data),
-            VIRGIN_STATE => self.virgin(table),
+            VIRGIN_STATE => self.virgin(),
             MODE_SEND => self.mode_send(table, line, data),
             _ => Served::error(NOT_ACCEPTED, "error 1: not served"),
         }
     }
 
-    fn enter(&mut self, line: u8, data: &[u8]) -> Served {
-        let login = &mut self.logins[usize::from(line)];
+    /// Makes the change of a request.
+    pub(super) fn make(&mut self, change: Change, table: &mut [u8]) {
+        match change {
+            Change::Nothing => {}
+            Change::Login(line) => self.logins[usize::from(line)] = true,
+            Change::Password(password) => self.password = password,
+            Change::Field(node, field, bytes) => {
+                nodes::record_mut(table, node)[field].copy_from_slice(&bytes);
+            }
+            Change::Remove(removed) => {
+                for &node in &removed {
+                    nodes::record_mut(table, node).fill(0);
+                }
+                self.sessions.close_if(|session| loses(session, &removed));
+            }
+            Change::Virgin => {
+                table.fill(0);
+                self.sessions.close_if(|_| true);
+            }
+            Change::Open(slot, session) => self.sessions.slots[slot] = Some(session),
+        }
+    }
+
+    fn enter(&self, line: u8, data: &[u8]) -> Served {
         if data == self.password {
-            *login = true;
-            Served::confirm(PASSWORD_ENTER, &[OK], "enter 0")
-        } else if *login {
+            Served::confirm(PASSWORD_ENTER, &[OK], "enter 0").changing(Change::Login(line))
+        } else if self.logins[usize::from(line)] {
             Served::confirm(PASSWORD_ENTER, &[REJECTED], "enter 1: stays logged in")
         } else {
             Served::confirm(PASSWORD_ENTER, &[REJECTED], "enter 1: not logged in")
         }
     }
 
-    fn change(&mut self, data: &[u8]) -> Served {
+    fn change(&self, data: &[u8]) -> Served {
         let (old, new) = data.split_at(PASSWORD);
         if old != self.password {
             return Served::confirm(PASSWORD_CHANGE, &[REJECTED], "change 1");
         }
-        self.password.copy_from_slice(new);
         let remark = if old == new {
             "change 0: to the same"
         } else {
             "change 0: to another"
         };
-        Served::confirm(PASSWORD_CHANGE, &[OK], remark)
+        let mut password = [0; PASSWORD];
+        password.copy_from_slice(new);
+        Served::confirm(PASSWORD_CHANGE, &[OK], remark).changing(Change::Password(password))
     }
 
-    fn remove(&mut self, table: &mut [u8], bits: &[u8]) -> Served {
+    fn remove(&self, table: &[u8], bits: &[u8]) -> Served {
         let named = |node: u8| bits[usize::from(node / 8)] >> (node % 8) & 1 == 1;
         let before = nodes::all_in_use(table);
         let removed: Vec<u8> = before.iter().copied().filter(|&node| named(node)).collect();
-        for &node in &removed {
-            nodes::record_mut(table, node).fill(0);
-        }
-        let loses = |session: &Session| session.nodes.iter().any(|node| removed.contains(node));
-        let closed = self.sessions.close_if(loses);
         let remark = match removed.len() {
             0 => "remove: no node",
             count if count < before.len() => "remove: some nodes",
             _ => "remove: all nodes",
         };
         let mut served = Served::confirm(REMOVE_NODES, &[0], remark);
-        if closed > 0 {
+        let mut open = self.sessions.open();
+        if open.any(|session| loses(session, &removed)) {
             served.remarks.push("remove: a session closes");
         }
-        if self.sessions.open().next().is_some() {
+        let mut open = self.sessions.open();
+        if open.any(|session| !loses(session, &removed)) {
             served.remarks.push("remove: a session stays open");
         }
         if bits[NODES / 8] != 0 {
@@ -137,31 +196,25 @@ impl Hub {
         if (0..NODES as u8).any(|node| named(node) && !before.contains(&node)) {
             served.remarks.push("remove: a node not in use named");
         }
-        served
+        served.changing(Change::Remove(removed))
     }
 
-    fn virgin(&mut self, table: &mut [u8]) -> Served {
-        table.fill(0);
-        let remark = match self.sessions.close_if(|_| true) {
+    fn virgin(&self) -> Served {
+        let remark = match self.sessions.open().count() {
             0 => "virgin: no session",
             _ => "virgin: a session closes",
         };
-        Served::confirm(VIRGIN_STATE, &[], remark)
+        Served::confirm(VIRGIN_STATE, &[], remark).changing(Change::Virgin)
     }
 
-    fn mode_send(&mut self, table: &[u8], line: u8, data: &[u8]) -> Served {
+    fn mode_send(&self, table: &[u8], line: u8, data: &[u8]) -> Served {
         let request = ModeSend::new(data);
         let (status, remark) = self.mode_status(table, line, &request);
-        if let (OK, Some(slot)) = (status, self.sessions.lowest_free()) {
-            let mut nodes = request.nodes.to_vec();
-            nodes.sort();
-            self.sessions.slots[slot] = Some(Session {
-                number: request.session,
-                line,
-                nodes,
-            });
+        let served = Served::confirm(MODE_SEND, &[data[0], data[1], status], remark);
+        match (status, self.sessions.lowest_free()) {
+            (OK, Some(slot)) => served.changing(Change::Open(slot, request.session(line))),
+            _ => served,
         }
-        Served::confirm(MODE_SEND, &[data[0], data[1], status], remark)
     }
 
     /// The first status that applies.
@@ -173,7 +226,7 @@ impl Hub {
         if let Some(cause) = illegal.first() {
             return (5, cause);
         }
-        if let Some(slot) = self.sessions.slot_of(request.session) {
+        if let Some(slot) = self.sessions.slot_of(request.number) {
             let other = self.sessions.slots[slot].as_ref().map(|open| open.line) != Some(line);
             let remarks = ["mode send 3: own session", "mode send 3: other line's"];
             return (3, remarks[usize::from(other)]);
@@ -197,7 +250,7 @@ impl Hub {
 
 /// What mode send asks for. Mode, parameter, levels and lock time are free.
 struct ModeSend<'a> {
-    session: u16,
+    number: u16,
     originator: u8,
     priority: u8,
     count: u8,
@@ -214,12 +267,23 @@ impl<'a> ModeSend<'a> {
         let count = data[6];
         let taken = if count <= INDICES { count } else { 0 };
         ModeSend {
-            session: u16::from_be_bytes([data[0], data[1]]),
+            number: u16::from_be_bytes([data[0], data[1]]),
             originator: data[2],
             priority: data[3],
             count,
             nodes: &data[7..7 + usize::from(taken)],
             lock: data[27],
+        }
+    }
+
+    /// The session that is asked for.
+    fn session(&self, line: u8) -> Session {
+        let mut nodes = self.nodes.to_vec();
+        nodes.sort();
+        Session {
+            number: self.number,
+            line,
+            nodes,
         }
     }
 
@@ -246,6 +310,11 @@ impl<'a> ModeSend<'a> {
         let applies = causes.into_iter().filter(|(applies, _)| *applies);
         applies.map(|(_, cause)| cause).collect()
     }
+}
+
+/// Whether a session has one of these nodes.
+fn loses(session: &Session, removed: &[u8]) -> bool {
+    session.nodes.iter().any(|node| removed.contains(node))
 }
 
 /// What is wrong with a node, if anything.
@@ -291,42 +360,41 @@ fn notice(node: u8, record: &[u8]) -> [u8; NODE_NOTICE_DATA] {
     data
 }
 
-fn set_variation(table: &mut [u8], node: u8, variation: u8) -> Served {
-    let (status, remark) = match invalid(table, node) {
-        Some(Invalid::Above) => (INVALID_NODE, "variation 2: above 199"),
-        Some(Invalid::NotInUse) => (INVALID_NODE, "variation 2: not in use"),
-        None if variation > VARIATION_MOST => (REJECTED, "variation 1"),
+fn set_variation(table: &[u8], node: u8, variation: u8) -> Served {
+    let (status, remark, change) = match invalid(table, node) {
+        Some(Invalid::Above) => (INVALID_NODE, "variation 2: above 199", Change::Nothing),
+        Some(Invalid::NotInUse) => (INVALID_NODE, "variation 2: not in use", Change::Nothing),
+        None if variation > VARIATION_MOST => (REJECTED, "variation 1", Change::Nothing),
         None => {
-            nodes::record_mut(table, node)[VARIATION] = variation;
-            (OK, "variation 0")
+            let field = VARIATION..VARIATION + 1;
+            let change = Change::Field(node, field, vec![variation]);
+            (OK, "variation 0", change)
         }
     };
-    Served::confirm(SET_VARIATION, &[status, node], remark)
+    Served::confirm(SET_VARIATION, &[status, node], remark).changing(change)
 }
 
-fn set_name(table: &mut [u8], node: u8, name: &[u8]) -> Served {
-    let (status, remark) = match invalid(table, node) {
-        Some(Invalid::Above) => (INVALID_NODE, "name 2: above 199"),
-        Some(Invalid::NotInUse) => (INVALID_NODE, "name 2: not in use"),
+fn set_name(table: &[u8], node: u8, name: &[u8]) -> Served {
+    let (status, remark, change) = match invalid(table, node) {
+        Some(Invalid::Above) => (INVALID_NODE, "name 2: above 199", Change::Nothing),
+        Some(Invalid::NotInUse) => (INVALID_NODE, "name 2: not in use", Change::Nothing),
         None => {
-            nodes::record_mut(table, node)[NAME].copy_from_slice(name);
-            (OK, "name 0")
+            let change = Change::Field(node, NAME, name.to_vec());
+            (OK, "name 0", change)
         }
     };
-    Served::confirm(SET_NAME, &[status, node], remark)
+    Served::confirm(SET_NAME, &[status, node], remark).changing(change)
 }
 
 /// Order has two bytes, placement one.
-fn set_order(table: &mut [u8], node: u8, fields: &[u8]) -> Served {
-    let (status, remark) = match invalid(table, node) {
-        Some(Invalid::Above) => (INVALID_NODE, "order 2: above 199"),
-        Some(Invalid::NotInUse) => (INVALID_NODE, "order 2: not in use"),
+fn set_order(table: &[u8], node: u8, fields: &[u8]) -> Served {
+    let (status, remark, change) = match invalid(table, node) {
+        Some(Invalid::Above) => (INVALID_NODE, "order 2: above 199", Change::Nothing),
+        Some(Invalid::NotInUse) => (INVALID_NODE, "order 2: not in use", Change::Nothing),
         None => {
-            let record = nodes::record_mut(table, node);
-            record[ORDER].copy_from_slice(&fields[..2]);
-            record[PLACEMENT] = fields[2];
-            (OK, "order 0")
+            let change = Change::Field(node, ORDER_AND_PLACEMENT, fields.to_vec());
+            (OK, "order 0", change)
         }
     };
-    Served::confirm(SET_ORDER, &[status, node], remark)
+    Served::confirm(SET_ORDER, &[status, node], remark).changing(change)
 }

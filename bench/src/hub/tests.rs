@@ -9,13 +9,17 @@ use crate::sender::wire;
 const PASSWORD: [u8; 32] = *b"hub\0\0\0\0\0\0\0\0\0\0\0\0\0\0\0\0\0\0\0\0\0\0\0\0\0\0\0\0\x01";
 const FILL: u8 = 0xA5;
 
+mod rooms;
+
+/// What a feed tells: bytes used, the outcome and the reply.
+type Answer = (usize, Option<Outcome>, Vec<u8>);
+
 /// A hub and all that it is lent.
 #[derive(Clone)]
 struct Whole {
     hub: Hub,
     table: Vec<u8>,
     records: Vec<Reader>,
-    room: Vec<u8>,
 }
 
 impl Whole {
@@ -25,7 +29,6 @@ impl Whole {
             hub: Hub::new(),
             table: vec![0xFF; TABLE],
             records: vec![Reader::new(); LINES],
-            room: vec![FILL; ROOM_LEAST],
         };
         whole.hub.start(&PASSWORD, &mut whole.table).unwrap();
         for node in (0..30).chain([199]) {
@@ -37,18 +40,34 @@ impl Whole {
         whole
     }
 
-    /// Feeds bytes; tells bytes used, the outcome and the reply.
-    fn feed(&mut self, line: u8, bytes: &[u8]) -> (usize, Option<Outcome>, Vec<u8>) {
-        self.room.fill(FILL);
+    /// Feeds bytes with this room. Only the reply is written to it.
+    fn feed_lent(&mut self, line: u8, bytes: &[u8], room: usize) -> Result<Answer, u32> {
+        let room = &mut vec![FILL; room];
         let record = &mut self.records[usize::from(line)];
-        let fed = self
-            .hub
-            .feed(line, bytes, &mut self.table, record, &mut self.room);
-        let Ok(fed) = fed else {
-            panic!("the feed was refused");
-        };
-        assert!(self.room[fed.reply..].iter().all(|&byte| byte == FILL));
-        (fed.used, fed.outcome, self.room[..fed.reply].to_vec())
+        let fed = self.hub.feed(line, bytes, &mut self.table, record, room);
+        let written = fed.as_ref().map_or(0, |fed| fed.reply);
+        assert!(room[written..].iter().all(|&byte| byte == FILL));
+        match fed {
+            Ok(fed) => Ok((fed.used, fed.outcome, room[..written].to_vec())),
+            Err(refusals) => Err(refusals.given()),
+        }
+    }
+
+    /// Feeds bytes with room enough.
+    fn feed(&mut self, line: u8, bytes: &[u8]) -> Answer {
+        self.feed_lent(line, bytes, ROOM_ENOUGH).unwrap()
+    }
+
+    /// Finishes a session with this room; tells its line and the reply.
+    fn finish_lent(&mut self, session: u16, room: usize) -> Result<(u8, Vec<u8>), u32> {
+        let room = &mut vec![FILL; room];
+        let finished = self.hub.finish(session, room);
+        let written = finished.as_ref().map_or(0, |finished| finished.reply);
+        assert!(room[written..].iter().all(|&byte| byte == FILL));
+        match finished {
+            Ok(finished) => Ok((finished.line, room[..written].to_vec())),
+            Err(refusals) => Err(refusals.given()),
+        }
     }
 
     /// The reply to a frame.
@@ -80,13 +99,20 @@ impl Whole {
 
     fn mode_send_data(&mut self, line: u8, data: &[u8]) -> u8 {
         let reply = self.ask(line, 0x0320, data);
-        let status = reply[reply.len() - 3];
-        assert_eq!(reply, wire(0x0321, &[data[0], data[1], status]));
-        status
+        let replies = |status: &u8| reply == wire(0x0321, &[data[0], data[1], *status]);
+        (0..=5).find(replies).unwrap()
     }
 
     fn field(&self, node: u8, field: std::ops::Range<usize>) -> &[u8] {
         &nodes::record(&self.table, node)[field]
+    }
+
+    /// Whether all is the same, byte for byte.
+    fn same_bytes(&self, other: &Whole) -> bool {
+        let mut records = self.records.iter().zip(&other.records);
+        self.hub == other.hub
+            && self.table == other.table
+            && records.all(|(one, other)| one.same_bytes(other))
     }
 
     fn same_as(&self, other: &Whole) -> bool {
@@ -148,12 +174,8 @@ fn worked_replies() {
         reply,
         [0xC0, 0x00, 0x06, 0x03, 0x21, 0x01, 0x02, 0x00, 0x27, 0xC0]
     );
-    let finished = whole
-        .hub
-        .finish(0x0102, &mut whole.room)
-        .unwrap_or_else(|_| panic!());
-    assert_eq!(finished.line, 2);
-    let reply = &whole.room[..finished.reply];
+    let (line, reply) = whole.finish_lent(0x0102, ROOM_ENOUGH).unwrap();
+    assert_eq!(line, 2);
     assert_eq!(
         reply,
         [0xC0, 0x00, 0x05, 0x03, 0x04, 0x01, 0x02, 0x01, 0xC0]
@@ -167,7 +189,6 @@ fn refusals_come_in_order() {
     } = Whole::ready();
     let mut long = vec![0; TABLE + 1];
     let record = &mut Reader::new();
-    let room = &mut [0; ROOM_LEAST];
     assert_eq!(given(hub.start(&PASSWORD, &mut table[1..])), Some(7));
     assert_eq!(given(hub.start(&PASSWORD, &mut long)), Some(7));
     assert_eq!(given(hub.start(&[0; 31], &mut [])), Some(7));
@@ -180,18 +201,22 @@ fn refusals_come_in_order() {
     assert_eq!(given(hub.enrol(199, 1, &mut table)), Some(12));
     assert_eq!(given(hub.enrol(198, 1, &mut table)), None);
     assert_eq!(given(hub.close(4, record)), Some(8));
-    assert_eq!(given(hub.finish(1, &mut room[1..])), Some(9));
-    assert_eq!(given(hub.finish(1, room)), Some(13));
-    assert_eq!(given(hub.feed(4, &[], &mut long, record, &mut [])), Some(7));
-    assert_eq!(
-        given(hub.feed(4, &[], &mut table, record, &mut [])),
-        Some(8)
-    );
-    assert_eq!(
-        given(hub.feed(3, &[], &mut table, record, &mut room[1..])),
-        Some(9)
-    );
-    assert_eq!(given(hub.feed(3, &[], &mut table, record, room)), None);
+    let refused = ROWS[10].wire;
+    let mut fed = |line, table: &mut [u8], room: usize| {
+        let room = &mut [0; ROOM_ENOUGH][..room];
+        given(hub.feed(line, refused, table, record, room))
+    };
+    for room in [0, 7, 8, ROOM_ENOUGH] {
+        assert_eq!(fed(4, &mut long, room), Some(7));
+        assert_eq!(fed(3, &mut table[1..], room), Some(7));
+        assert_eq!(fed(4, &mut table, room), Some(8));
+        assert_eq!(fed(255, &mut table, room), Some(8));
+    }
+    assert_eq!(fed(3, &mut table, 7), Some(9));
+    assert_eq!(fed(3, &mut table, 8), None);
+    for room in [0, 8, 9, ROOM_ENOUGH] {
+        assert_eq!(given(hub.finish(1, &mut vec![0; room])), Some(13));
+    }
 }
 
 #[test]
@@ -200,13 +225,14 @@ fn a_refused_call_changes_nothing() {
     whole.mode_send(0, 5, &[1]);
     whole.feed(2, &[END, 1, 2]);
     let before = whole.clone();
-    let room = &mut vec![FILL; ROOM_LEAST];
     let frame = wire(0x0108, &[]);
     assert!(whole.hub.start(&[0; 31], &mut whole.table).is_err());
     assert!(whole.hub.enrol(1, 9, &mut whole.table).is_err());
     assert!(whole.hub.close(9, &mut whole.records[2]).is_err());
-    assert!(whole.hub.finish(6, room).is_err());
-    assert!(whole.hub.finish(5, &mut room[1..]).is_err());
+    assert_eq!(whole.finish_lent(6, ROOM_ENOUGH), Err(13));
+    assert_eq!(whole.finish_lent(5, 8), Err(9));
+    assert_eq!(whole.feed_lent(0, &frame, 6), Err(9));
+    let room = &mut vec![FILL; ROOM_ENOUGH];
     let record = &mut whole.records[0];
     let table = &mut whole.table;
     assert!(whole
@@ -214,11 +240,7 @@ fn a_refused_call_changes_nothing() {
         .feed(0, &frame, &mut table[1..], record, room)
         .is_err());
     assert!(whole.hub.feed(4, &frame, table, record, room).is_err());
-    assert!(whole
-        .hub
-        .feed(0, &frame, table, record, &mut room[1..])
-        .is_err());
-    assert!(whole.same_as(&before));
+    assert!(whole.same_bytes(&before));
     assert!(room.iter().all(|&byte| byte == FILL));
 }
 
@@ -310,15 +332,6 @@ fn get_node_information() {
     assert_eq!(whole.ask(0, 0x0200, &[7]), expected);
 }
 
-/// The longest reply fits the least room.
-#[test]
-fn the_longest_reply_fits() {
-    let mut whole = Whole::ready();
-    whole.node_status(0x0208, &[&[7][..], &[END; 64]].concat());
-    whole.node_status(0x020D, &[7, END, END, END]);
-    assert!(whole.ask(0, 0x0200, &[7]).len() <= ROOM_LEAST);
-}
-
 #[test]
 fn in_use_is_exactly_1() {
     let mut whole = Whole::ready();
@@ -403,7 +416,7 @@ fn freed_slots_and_nodes_are_used_again() {
     assert_eq!(whole.hub.logins, [true, false, false, false]);
     assert_eq!(whole.mode_send(0, 9, &[3]), 0);
     assert_eq!(whole.hub.sessions.slot_of(9), Some(1));
-    assert!(whole.hub.finish(0, &mut whole.room).is_ok());
+    assert!(whole.finish_lent(0, ROOM_ENOUGH).is_ok());
     assert_eq!(whole.mode_send(0, 0, &[0, 1]), 0);
     assert_eq!(whole.hub.sessions.slot_of(0), Some(0));
     let mut bits = [0; 26];

@@ -7,7 +7,7 @@ use super::{host, step, Kind};
 use crate::generate::damage::{damaged, other_value, places, Damage};
 use crate::generate::frames;
 use crate::hub::nodes::TABLE;
-use crate::hub::LINES;
+use crate::hub::{Fed, LINES};
 use crate::outcome::{END, ESC};
 use crate::random::Random;
 use crate::replay::call::{is_remark, Call};
@@ -58,11 +58,19 @@ pub fn rows() -> Vec<String> {
         "the frame is alone",
         "the frame's feeds: one",
         "the frame's feeds: several",
-        "the frame's feeds: one refused",
+        "the frame's feeds: one refused 7",
+        "the frame's feeds: one refused 9",
+        "the frame's feeds: one refused 9, then the same bytes",
         "the frame's feeds: one of no bytes",
+        "the frame's feeds: a part with room 0",
+        "the frame's feeds: the error reply fits exactly",
         "a feed before ends in the frame",
         "other lines: an outcome between the frame's feeds",
-        "other lines: a refused feed",
+        "other frames of the line: one refused 9",
+        "other frames of the line: one fits exactly",
+        "other lines: one refused 7",
+        "other lines: one refused 9",
+        "other lines: one refused 9 between the frame's feeds",
         "other lines: a line above 3",
         "the line is logged in",
         "the line is not logged in",
@@ -84,6 +92,7 @@ pub fn pair(seed: u64, index: usize) -> Pair {
         hurt,
         outcomes: 0,
         frame_feeds: Vec::new(),
+        refused: None,
         rows,
     };
     feeds.send(&mut writer, wire);
@@ -198,6 +207,8 @@ struct Feeds {
     /// Outcomes on the line so far.
     outcomes: usize,
     frame_feeds: Vec<usize>,
+    /// The bytes of the line's last feed, if it was refused 9.
+    refused: Option<Vec<u8>>,
     rows: Vec<String>,
 }
 
@@ -226,24 +237,51 @@ impl Feeds {
         if in_frame {
             self.frame_feeds.push(lines(writer));
         }
-        let lent = part.len();
-        let call = call(writer, self.line as u8, part);
-        let Told::Fed(fed) = writer.call(call) else {
-            if in_frame {
-                self.row("the frame's feeds: one refused");
+        let (call, room) = call(writer, self.line as u8, part.clone());
+        let told = writer.call(call);
+        let again = self.refused.take().is_some_and(|bytes| bytes == part);
+        let fed = match told {
+            Told::Fed(fed) => fed,
+            Told::Refused(refusals) => {
+                let number = refusals.given();
+                if in_frame {
+                    self.row(&format!("the frame's feeds: one refused {number}"));
+                } else if number == 9 {
+                    self.row("other frames of the line: one refused 9");
+                }
+                self.refused = (number == 9).then_some(part);
+                return 0;
             }
-            return 0;
+            _ => return 0,
         };
-        if in_frame && lent == 0 {
+        self.show(&fed, room, in_frame, again);
+        if in_frame && part.is_empty() {
             self.row("the frame's feeds: one of no bytes");
         }
         if fed.outcome.is_some() {
             self.outcomes += 1;
-            if self.outcomes == self.hurt && fed.used < lent {
+            if self.outcomes == self.hurt && fed.used < part.len() {
                 self.row("a feed before ends in the frame");
             }
         }
         fed.used
+    }
+
+    /// The rows of a feed on the line that is not refused.
+    fn show(&mut self, fed: &Fed, room: usize, in_frame: bool, again: bool) {
+        if in_frame && again {
+            self.row("the frame's feeds: one refused 9, then the same bytes");
+        }
+        if in_frame && room == 0 && fed.used > 0 {
+            self.row("the frame's feeds: a part with room 0");
+        }
+        if fed.outcome.is_some() && fed.reply == room {
+            self.row(if in_frame {
+                "the frame's feeds: the error reply fits exactly"
+            } else {
+                "other frames of the line: one fits exactly"
+            });
+        }
     }
 
     /// One feed on another line, or on one above 3.
@@ -260,17 +298,23 @@ impl Feeds {
         } else {
             line
         };
-        let call = call(writer, fed_line as u8, part);
+        let (call, _) = call(writer, fed_line as u8, part);
+        let between = self.outcomes == self.hurt && !self.frame_feeds.is_empty();
         match writer.call(call) {
             Told::Fed(fed) => {
                 others[line].drain(..fed.used);
-                let between = self.outcomes == self.hurt && !self.frame_feeds.is_empty();
                 if fed.outcome.is_some() && between {
                     self.row("other lines: an outcome between the frame's feeds");
                 }
             }
-            _ if above => self.row("other lines: a line above 3"),
-            _ => self.row("other lines: a refused feed"),
+            Told::Refused(refusals) if !above => {
+                let number = refusals.given();
+                self.row(&format!("other lines: one refused {number}"));
+                if number == 9 && between {
+                    self.row("other lines: one refused 9 between the frame's feeds");
+                }
+            }
+            _ => self.row("other lines: a line above 3"),
         }
     }
 
@@ -299,20 +343,23 @@ impl Feeds {
     }
 }
 
-/// A feed whose lent lengths are right most of the time.
-fn call(writer: &mut Writer, line: u8, bytes: Vec<u8>) -> Call {
-    let any_room = writer.random.once_in(10);
+/// A feed whose lent lengths are right most of the time, and its room.
+fn call(writer: &mut Writer, line: u8, bytes: Vec<u8>) -> (Call, usize) {
+    let reply = writer.reply_to(line, &bytes);
+    let room = if writer.random.once_in(3) {
+        writer.any_room(reply)
+    } else {
+        writer.right_room(reply)
+    };
     let any_table = writer.random.once_in(10);
-    Call::Feed {
+    let table = if any_table { writer.any_table() } else { TABLE };
+    let call = Call::Feed {
         line,
-        room: if any_room {
-            writer.any_room()
-        } else {
-            writer.right_room()
-        },
+        room,
         bytes,
-        table: if any_table { writer.any_table() } else { TABLE },
-    }
+        table,
+    };
+    (call, room)
 }
 
 /// A capture of any kind or a request.

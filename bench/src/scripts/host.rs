@@ -4,7 +4,7 @@ use super::writer::Writer;
 use super::{bad, requests};
 use crate::hub::commands::PASSWORD_ENTER;
 use crate::hub::nodes::{self, NODES, TABLE};
-use crate::hub::{LINES, PASSWORD};
+use crate::hub::{self, LINES, PASSWORD};
 use crate::random::Random;
 use crate::replay::call::Call;
 use crate::sender;
@@ -86,18 +86,37 @@ pub fn enrol_some(writer: &mut Writer) {
     }
 }
 
+/// Enrols a node whose replies have bytes to escape, unless it is in use.
+pub fn enrol_escaped(writer: &mut Writer) {
+    let node = writer.random.pick(&requests::ESCAPED_NODES);
+    if !nodes::in_use(writer.replay.table(), node) {
+        let kind = writer.random.pick(&[0x0080, 0xC0DB]);
+        writer.call(Call::Enrol {
+            node,
+            kind,
+            table: TABLE,
+        });
+    }
+}
+
 pub fn close(writer: &mut Writer, line: u8) {
     writer.call(Call::Close { line });
 }
 
-/// Finishes an open session if there is one.
-fn finish(writer: &mut Writer) {
+/// Finishes an open session if there is one, sometimes only when a shorter
+/// room was refused.
+pub fn finish(writer: &mut Writer) {
     let open = writer.open_sessions();
     if open.is_empty() {
         return any_call(writer);
     }
     let session = writer.random.pick(&open);
-    let room = writer.right_room();
+    let reply = hub::finished(session).len();
+    if writer.random.once_in(6) {
+        let room = writer.short_room(reply);
+        writer.call(Call::Finish { session, room });
+    }
+    let room = writer.right_room(reply);
     writer.call(Call::Finish { session, room });
 }
 
@@ -154,19 +173,25 @@ pub fn call_of(word: &str, writer: &mut Writer) -> Call {
             kind: writer.random.draw() as u16,
             table: writer.any_table(),
         },
-        "feed" => Call::Feed {
-            line: any_line(&mut writer.random),
-            room: writer.any_room(),
-            bytes: any_bytes(&mut writer.random),
-            table: writer.any_table(),
-        },
+        "feed" => {
+            let line = any_line(&mut writer.random);
+            let bytes = any_bytes(&mut writer.random);
+            let reply = writer.reply_to(line, &bytes);
+            Call::Feed {
+                line,
+                room: writer.any_room(reply),
+                bytes,
+                table: writer.any_table(),
+            }
+        }
         "close" => Call::Close {
             line: any_line(&mut writer.random),
         },
-        "finish" => Call::Finish {
-            session: requests::any_session(writer),
-            room: writer.any_room(),
-        },
+        "finish" => {
+            let session = requests::any_session(writer);
+            let room = writer.any_room(hub::finished(session).len());
+            Call::Finish { session, room }
+        }
         "show" => Call::Show,
         _ => Call::Table,
     }

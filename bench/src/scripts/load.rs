@@ -8,7 +8,7 @@ use crate::hub::commands::{
     SET_VARIATION,
 };
 use crate::hub::nodes::{NODES, TABLE};
-use crate::hub::{LINES, PASSWORD, ROOM_LEAST};
+use crate::hub::{LINES, PASSWORD, ROOM_ENOUGH};
 use crate::random::Random;
 use crate::replay::call::Call;
 use crate::sender;
@@ -46,7 +46,7 @@ pub fn script(feeds: usize) -> Vec<u8> {
 fn finish_all(writer: &mut Writer) {
     let open = writer.open_sessions();
     for session in open {
-        let room = ROOM_LEAST;
+        let room = ROOM_ENOUGH;
         writer.call(Call::Finish { session, room });
     }
 }
@@ -71,7 +71,7 @@ fn set_up(writer: &mut Writer, password: &[u8]) {
 fn feed(writer: &mut Writer, line: u8, bytes: &[u8]) {
     writer.call(Call::Feed {
         line,
-        room: ROOM_LEAST,
+        room: ROOM_ENOUGH,
         bytes: bytes.to_vec(),
         table: TABLE,
     });

@@ -17,10 +17,19 @@ use crate::reach;
 pub enum Taste {
     Any,
     Sessions,
+    /// Those whose reply has bytes to escape.
+    Escapes,
 }
 
 /// A command number and its data.
 pub type Request = (u16, Vec<u8>);
+
+/// Nodes whose replies have bytes to escape: the node itself, or the check
+/// byte of a confirm.
+pub const ESCAPED_NODES: [u8; 5] = [192, 193, 194, 196, 198];
+/// Bytes of sessions. Each pair of them is a number; of many, a byte or the
+/// check byte of the reply or of the finish is escaped.
+const SESSION_BYTES: [u8; 9] = [0, 2, 0x24, 0xC0, 0xC2, 0xD9, 0xDB, 0xE4, 0xFF];
 
 /// The places for indices in a mode send.
 const INDICES: usize = commands::INDICES as usize;
@@ -33,6 +42,9 @@ pub fn request(writer: &mut Writer, line: u8, taste: Taste) -> Request {
     }
     if taste == Taste::Sessions && !writer.random.once_in(4) {
         return mode_send(writer);
+    }
+    if taste == Taste::Escapes && writer.random.once_in(2) {
+        return escaped(writer);
     }
     match writer.random.below(26) {
         0 | 1 => enter(writer),
@@ -49,6 +61,20 @@ pub fn request(writer: &mut Writer, line: u8, taste: Taste) -> Request {
         23 => unknown(&mut writer.random),
         _ => frame_of_250(&mut writer.random),
     }
+}
+
+/// A request whose reply mostly has bytes to escape.
+fn escaped(writer: &mut Writer) -> Request {
+    let node = writer.random.pick(&ESCAPED_NODES);
+    let (command, mut data) = match writer.random.below(6) {
+        0 | 1 => return mode_send(writer),
+        2 => variation(writer),
+        3 => order(writer),
+        4 => name(writer),
+        _ => (GET_NODE, vec![0]),
+    };
+    data[0] = node;
+    (command, data)
 }
 
 /// A request that sets something of a node, mostly its name.
@@ -93,6 +119,7 @@ fn any_node(writer: &mut Writer) -> u8 {
     match writer.random.below(10) {
         0 => writer.random.between(NODES, 255) as u8,
         1 => writer.random.pick(&[0, 199, 200, 255]),
+        2 if writer.random.once_in(2) => writer.random.pick(&ESCAPED_NODES),
         2..4 => writer.random.below(NODES) as u8,
         _ if used.is_empty() => writer.random.below(NODES) as u8,
         _ => writer.random.pick(&used),
@@ -122,6 +149,7 @@ fn any_name(random: &mut Random) -> Vec<u8> {
         b"\x01\x09\x0A\x0D\x1B\x1F",
         b" \x7E\x7F",
         b"\x80\xC3\xB6\xFF",
+        b"\xC0\xDB",
         b"East vent",
     ]);
     let mut name: Vec<u8> = match random.below(4) {
@@ -185,7 +213,7 @@ fn right_mode_send(writer: &mut Writer) -> Vec<u8> {
     }
     let count = named.len().max(1) as u8;
     named.resize_with(INDICES, || random.byte());
-    let session = random.draw() as u16;
+    let session = new_session(random);
     let mut data = session.to_be_bytes().to_vec();
     data.extend([random.pick(&ORIGINATORS), random.below(8) as u8]);
     data.extend([random.byte(), random.byte(), count]);
@@ -193,6 +221,15 @@ fn right_mode_send(writer: &mut Writer) -> Vec<u8> {
     data.push(random.below(2) as u8);
     data.extend([random.byte(), random.byte(), random.byte()]);
     data
+}
+
+/// Any number, often one with bytes to escape.
+fn new_session(random: &mut Random) -> u16 {
+    if random.once_in(2) {
+        u16::from_be_bytes([random.pick(&SESSION_BYTES), random.pick(&SESSION_BYTES)])
+    } else {
+        random.draw() as u16
+    }
 }
 
 /// Makes one thing wrong, or at least different.
@@ -229,7 +266,7 @@ fn spoil_mode_send(data: &mut [u8], writer: &mut Writer) {
 pub fn any_session(writer: &mut Writer) -> u16 {
     let open = writer.open_sessions();
     if open.is_empty() || writer.random.once_in(2) {
-        let any = writer.random.draw() as u16;
+        let any = new_session(&mut writer.random);
         writer.random.pick(&[0, 1, 65535, any])
     } else {
         writer.random.pick(&open)

@@ -1,13 +1,17 @@
 //! Writes a script and runs the model beside it.
 
 use crate::hub::nodes::TABLE;
-use crate::hub::{LINES, ROOM_LEAST};
+use crate::hub::{LINES, ROOM_ENOUGH};
 use crate::random::Random;
 use crate::replay::call::Call;
 use crate::replay::{Replay, Told, ROOM_BUFFER, TABLE_BUFFER};
 
 /// One feed in so many is lent something that may be refused.
 const REFUSED_ONCE_IN: usize = 12;
+/// One feed in so many has a room that its reply mostly does not fit, and one
+/// send in so many has a line where most feeds have.
+const SHORT_ONCE_IN: usize = 12;
+const SHORT_LINE_ONCE_IN: usize = 8;
 /// One feed in so many has no bytes.
 const EMPTY_ONCE_IN: usize = 40;
 /// The longest parts to draw from. Short ones make many calls.
@@ -19,6 +23,8 @@ pub struct Writer {
     pub calls: usize,
     pub replay: Replay,
     pub random: Random,
+    /// A line whose rooms are mostly too short.
+    short_line: Option<u8>,
     answer: Vec<u8>,
 }
 
@@ -29,6 +35,7 @@ impl Writer {
             calls: 0,
             replay: Replay::new(),
             random,
+            short_line: None,
             answer: Vec::new(),
         }
     }
@@ -64,11 +71,14 @@ impl Writer {
     /// order. What a feed does not use is fed again.
     pub fn send(&mut self, mut waiting: [Vec<u8>; LINES]) {
         let longest = self.random.pick(&LONGEST_PARTS);
+        let short = self.random.once_in(SHORT_LINE_ONCE_IN);
+        self.short_line = short.then(|| self.random.below(LINES) as u8);
         while let Some(line) = self.drawn_line(&waiting) {
             let part = self.part(&waiting[line], longest);
             let used = self.feed(line as u8, part);
             waiting[line].drain(..used);
         }
+        self.short_line = None;
     }
 
     /// The first bytes of what waits, sometimes none.
@@ -90,38 +100,88 @@ impl Writer {
     }
 
     /// Feeds a line and tells how many bytes were used. Sometimes the lent
-    /// lengths are wrong, or the same bytes go to a line above 3.
+    /// lengths are wrong, or the same bytes go to a line above 3. What was
+    /// refused for its room is often fed again at once.
     pub fn feed(&mut self, line: u8, bytes: Vec<u8>) -> usize {
         let right = !self.random.once_in(REFUSED_ONCE_IN);
-        let call = Call::Feed {
-            line: if right { line } else { self.any_line(line) },
-            room: if right {
-                self.right_room()
-            } else {
-                self.any_room()
-            },
-            bytes,
-            table: if right { TABLE } else { self.any_table() },
+        let fed_line = if right { line } else { self.any_line(line) };
+        let table = if right { TABLE } else { self.any_table() };
+        let reply = self.reply_to(line, &bytes);
+        let room = if self.is_short(line) {
+            self.short_room(reply)
+        } else if right {
+            self.right_room(reply)
+        } else {
+            self.any_room(reply)
         };
-        let own = matches!(call, Call::Feed { line: fed, .. } if fed == line);
-        match self.call(call) {
-            Told::Fed(fed) if own => fed.used,
+        let told = self.feed_lent(fed_line, room, &bytes, table);
+        match told {
+            Told::Fed(fed) if fed_line == line => fed.used,
+            Told::Refused(refusals) if refusals.given() == 9 && self.random.once_in(2) => {
+                let room = self.right_room(reply);
+                match self.feed_lent(line, room, &bytes, TABLE) {
+                    Told::Fed(fed) => fed.used,
+                    _ => 0,
+                }
+            }
             _ => 0,
         }
     }
 
-    pub fn right_room(&mut self) -> usize {
-        let any = self.random.between(ROOM_LEAST, ROOM_BUFFER);
-        self.random
-            .pick(&[ROOM_LEAST, ROOM_LEAST, ROOM_BUFFER, any])
+    /// Writes a feed with these lent lengths.
+    pub fn feed_lent(&mut self, line: u8, room: usize, bytes: &[u8], table: usize) -> Told {
+        self.call(Call::Feed {
+            line,
+            room,
+            bytes: bytes.to_vec(),
+            table,
+        })
     }
 
-    /// A room that is right half of the time.
-    pub fn any_room(&mut self) -> usize {
-        let below = self.random.below(ROOM_LEAST);
-        let right = self.right_room();
-        let wrong = self.random.pick(&[0, 1, ROOM_LEAST - 1, below]);
-        self.random.pick(&[right, wrong])
+    /// The length of the reply to a feed of these bytes, 0 for none.
+    pub fn reply_to(&self, line: u8, bytes: &[u8]) -> usize {
+        let coming = self.replay.coming(line, bytes);
+        coming.map_or(0, |coming| coming.reply.len())
+    }
+
+    fn is_short(&mut self, line: u8) -> bool {
+        if self.short_line == Some(line) {
+            !self.random.once_in(4)
+        } else {
+            self.random.once_in(SHORT_ONCE_IN)
+        }
+    }
+
+    /// A room that a reply of this length fits, often exactly.
+    pub fn right_room(&mut self, reply: usize) -> usize {
+        let any = self.random.between(ROOM_ENOUGH, ROOM_BUFFER);
+        let less = self.random.between(reply, ROOM_ENOUGH);
+        let rooms = [300, 511, ROOM_ENOUGH, ROOM_ENOUGH, ROOM_BUFFER, any, less];
+        let near = [reply, reply, reply + 1];
+        let room = if self.random.once_in(3) {
+            self.random.pick(&near)
+        } else {
+            self.random.pick(&rooms)
+        };
+        room.max(reply)
+    }
+
+    /// A room that a reply of this length mostly does not fit. The first frame
+    /// of two has 9 or 10 bytes.
+    pub fn short_room(&mut self, reply: usize) -> usize {
+        let below = self.random.below(reply.max(1));
+        let last = reply.saturating_sub(1);
+        self.random
+            .pick(&[0, 0, 1, 6, 7, 8, 9, 10, last, last, last, last, below])
+    }
+
+    /// A room that fits half of the time.
+    pub fn any_room(&mut self, reply: usize) -> usize {
+        if self.random.once_in(2) {
+            self.right_room(reply)
+        } else {
+            self.short_room(reply)
+        }
     }
 
     /// A table length that is right half of the time.
