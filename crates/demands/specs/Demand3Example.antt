@@ -1,5 +1,5 @@
 -- Demand 3 is not empty: nine feeds on this hub, computed. Line 0, whose record claims 300 bytes, sends a frame, one with a byte replaced,
--- and a third; while the damaged one comes, line 1 logs in, a feed of line 0 is refused for its room, one is empty, and line 7 is refused.
+-- and a third; while the damaged one comes, line 1 logs in, a feed of line 0 is refused for a byte of room that its error reply lacks, one is empty, and line 7 is refused.
 use Prim.Native.Nat.{ℕ}
 use mathlib.Core.Path.{_≡_, refl, ap, subst, _∙_}
 use mathlib.Core.Bool.{Bool, true, false}
@@ -24,6 +24,7 @@ use Rattle.feeds.specs.Sent.{Sent, enclosed, sent}
 use Rattle.feeds.specs.Service.{worldOf}
 use Rattle.feeds.specs.AnyHub.{DamageIsolated, damage-isolated}
 use Rattle.memory.specs.Octets.{same}
+use Rattle.replies.specs.Messages.{bytesOf, aboutNode}
 use Rattle.rules.specs.Hub as rules
 use Rattle.rules.specs.Hub.{firstHub, hub, serve}
 use Rattle.demands.specs.Calls.{World}
@@ -41,15 +42,15 @@ entry l r b = record { line = l; bytes = b; room = r; spare = emptied }
 
 unfoldable entries : List Entry
 entries =
-    entry 0 512 (END ∷ 0x00 ∷ 0x03 ∷ 0x00 ∷ 0x01 ∷ 0x02 ∷ END ∷ 9 ∷ [])
-    ∷ entry 0 512 (END ∷ 0x00 ∷ 0x03 ∷ 0x00 ∷ [])
-    ∷ entry 1 600 (END ∷ 0x00 ∷ 0x23 ∷ 0x30 ∷ 0x00 ∷ (replicate 32 0x00 ++ 0x13 ∷ END ∷ []))
-    ∷ entry 0 511 (0x08 ∷ 0x0A ∷ END ∷ [])
+    entry 0 8 (END ∷ 0x00 ∷ 0x03 ∷ 0x00 ∷ 0x01 ∷ 0x02 ∷ END ∷ 9 ∷ [])
+    ∷ entry 0 0 (END ∷ 0x00 ∷ 0x03 ∷ 0x00 ∷ [])
+    ∷ entry 1 300 (END ∷ 0x00 ∷ 0x23 ∷ 0x30 ∷ 0x00 ∷ (replicate 32 0x00 ++ 0x13 ∷ END ∷ []))
+    ∷ entry 0 7 (0x08 ∷ 0x0A ∷ END ∷ [])
     ∷ entry 7 0 (0x08 ∷ 0x0A ∷ END ∷ [])
-    ∷ entry 0 512 []
-    ∷ entry 0 512 (0x08 ∷ 0x0A ∷ END ∷ 9 ∷ [])
-    ∷ entry 0 512 (0x00 ∷ 0x03 ∷ 0x00 ∷ 0x08 ∷ 0x0B ∷ END ∷ [])
-    ∷ entry 1 512 (0x00 ∷ 0x04 ∷ 0x02 ∷ 0x00 ∷ 0x05 ∷ 0x03 ∷ END ∷ [])
+    ∷ entry 0 0 []
+    ∷ entry 0 8 (0x08 ∷ 0x0A ∷ END ∷ 9 ∷ [])
+    ∷ entry 0 300 (0x00 ∷ 0x03 ∷ 0x00 ∷ 0x08 ∷ 0x0B ∷ END ∷ [])
+    ∷ entry 1 9 (0x00 ∷ 0x04 ∷ 0x02 ∷ 0x00 ∷ 0x05 ∷ 0x03 ∷ END ∷ [])
     ∷ []
 
 -- what each gives: line 1 is told status 0, and later, logged in, status 2 for a node that is not in use
@@ -71,7 +72,7 @@ unfoldable its : List Bool
 its = false ∷ true ∷ false ∷ true ∷ false ∷ true ∷ true ∷ false ∷ false ∷ []
 
 example-results : results hub start entries ≡ given
-unfolding overfull start worldOf entry entries given serve rules.request rules.enter same rules.getNode table.inUse lookup.verdict lookup.verdictOf lookup.find directory results feed returned call decided settled serveIf stateFor scan onward step verdict inner line.step line.decoded line.close line.wrongEscape line.tooLong judge wire escape framed body frames.tooLong frames.tooShort frames.wrongProtocol frames.wrongLength frames.wrongCheck xorAll _⊕_
+unfolding overfull start worldOf entry entries given serve rules.respond bytesOf aboutNode rules.request rules.enter same table.inUse lookup.verdict lookup.verdictOf lookup.find directory results feed returned call decided settled serveIf stateFor scan onward step verdict inner line.step line.decoded line.close line.wrongEscape line.tooLong judge wire escape framed body frames.tooLong frames.tooShort frames.wrongProtocol frames.wrongLength frames.wrongCheck xorAll _⊕_
 example-results = refl
 
 example-marks : marks 0 1 entries (answers given) ≡ its

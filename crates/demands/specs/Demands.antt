@@ -3,19 +3,17 @@
 use Prim.Native.Nat.{ℕ, _<_}
 use mathlib.Core.Path.{_≡_, refl, sym, ap, ap₂, _∙_}
 use mathlib.Core.List.{List, [], _++_, map}
-use mathlib.Core.Bool.{Bool, true, false, cond, not}
+use mathlib.Core.Bool.{Bool, true, false, cond}
 use mathlib.Core.Option.{Option, none, some, Option·none-ne-some, Option·some-injective}
 use native.Mathlib.Omega.{arith}
 use lib.ListN.{length, take, drop, getD, set, replicate, length-map}
 use lib.Seq.{set-getD, take-at}
-use lib.Dec.{ltb, eqb}
-use borrow.Author.Tests.{eqb-true}
+use lib.Dec.{ltb}
 use Rattle.frame.specs.declared.Written.{Written}
 use Rattle.frame.specs.declared.WrittenAt.{WrittenAt}
 use Rattle.frame.specs.Writer as writer
-use Rattle.frame.specs.Writer.{minRoom, Writing, upTo, noFit, write, writeAt, Writes}
+use Rattle.frame.specs.Writer.{Writing, upTo, noFit, write, writeAt, Writes}
 use Rattle.frame.specs.WireLaws.{Unwritten, write-refusal, write-untouched, place-untouched}
-use Rattle.nodes.specs.Table.{tableSize}
 use Rattle.line.specs.declared.Reading.{Reading}
 use Rattle.frame.specs.Frame as packet
 use Rattle.frame.specs.Frame.{Outcome, maxData, wire}
@@ -35,7 +33,7 @@ use Rattle.feeds.specs.ServiceLaws as service
 use Rattle.feeds.specs.ServiceLaws.{run-results, run-answers, run-end}
 use Rattle.feeds.specs.Demand3.{Line, recordAt, own-taken, has-line}
 use Rattle.rules.specs.declared.Hub.{Hub}
-use Rattle.rules.specs.Hub.{passwordSize, freshHub, firstHub, startRefusal, startBy, Started, Enrolled, Closed, Finish, refusedFinish, finishedOn, Finished, finishBy, notice, wrongTable, shortRoom, refuseIf, refuseLine, lineCount, feedRefusal, Reply, isLoggedIn, hub}
+use Rattle.rules.specs.Hub.{passwordSize, freshHub, firstHub, startRefusal, startBy, Started, Enrolled, Closed, Finish, refusedFinish, finishedOn, Finished, finishBy, notice, refuseIf, lineCount, feedRefusal, Reply, isLoggedIn, hub}
 use Rattle.rules.specs.Answers.{finishOf, FinishedSession, answerOf, fedOf}
 use Rattle.rules.specs.PromiseLaws.{feeds-promise}
 use Rattle.demands.specs.Calls.{World}
@@ -43,7 +41,7 @@ use Rattle.demands.specs.FeedLists.{FeedList, feedsOf}
 use Rattle.demands.specs.Invariants.{Unchanged, OneAtMost}
 use Rattle.demands.specs.Steps.{Memory, Step, start, finish, feed, Return, finished, fed, lineRecord, Made, starts, enrols, closes, finishes, feeds, Steps, refusal, finishTells, feedTells, refusalTold, isRefused, roomLent, roomBack, recordLent, recordBack, Unprivileged, loggedByAll, callOf}
 use Rattle.demands.specs.StepsLaws.{made-refusal, steps-without, steps-after, steps-logged, steps-unprivileged, steps-any}
-use Rattle.rules.specs.Frames.{Frames, serve-frames, notice-frames}
+use Rattle.rules.specs.Frames.{Frames, no-frames, serve-frames, notice-frames}
 use Rattle.rules.specs.Refusals.{start-refused, enrol-refused, close-refused, finish-refused}
 use Rattle.demands.specs.Guard as guard
 use Rattle.demands.specs.Logins.{logged-exactly}
@@ -86,8 +84,8 @@ pub record Answered (m : Memory) (g : Lent) (o : Got hub) (v : Memory) (u : ℕ)
   pub reply : o .room ≡ r .reply ++ drop k (g .room)
 
 -- the refusal that applies to writing, if any, and the one that it tells
-abbrev pub writeRefusal : ℕ → ℕ → Option ℕ
-writeRefusal room len = refuseIf (ltb room minRoom) writer.shortRoom (refuseIf (ltb maxData len) writer.longData none)
+abbrev pub writeRefusal : ℕ → ℕ → List ℕ → Option ℕ
+writeRefusal room c d = refuseIf (ltb maxData (length d)) writer.longData (refuseIf (ltb room (length (wire c d))) writer.shortRoom none)
 
 abbrev pub writingRefusal : Writing → Option ℕ
 writingRefusal (upTo n) = none
@@ -101,8 +99,9 @@ pub record Demand1 : Type 0 where
   pub exactly : {m v : Memory} {s : Step} {o : Return} → Made m s o v → refusalTold o ≡ refusal m s
   -- "A refused call changes neither the hub nor lent memory;"
   pub untouched : {m v : Memory} {s : Step} {o : Return} → Made m s o v → (n : ℕ) → refusalTold o ≡ some n → Untouched m s o v
-  -- the frame writer, which keeps nothing: refused exactly if its room or its data's length is, and then it leaves the room as it was lent
-  pub write-exactly : (room : List ℕ) (c : ℕ) (d : List ℕ) (r : Written) (left : List ℕ) → Writes (write room c d) (writer.told r) left → writingRefusal (writer.told r) ≡ writeRefusal (length room) (length d)
+  -- the frame writer, which keeps nothing: refused exactly if its data are above 250 bytes (10), or else longer than the room once written (9),
+  -- and then it leaves the room as it was lent
+  pub write-exactly : (room : List ℕ) (c : ℕ) (d : List ℕ) (r : Written) (left : List ℕ) → Writes (write room c d) (writer.told r) left → writingRefusal (writer.told r) ≡ writeRefusal (length room) c d
   pub write-untouched : (room : List ℕ) (c : ℕ) (d : List ℕ) (r : Written) (left : List ℕ) → Writes (write room c d) (writer.told r) left → (n : ℕ) → writingRefusal (writer.told r) ≡ some n → left ≡ room
   -- and so where it writes at an offset: refused, or without room for the whole frame, it leaves the room
   pub place-untouched : (room : List ℕ) (i c : ℕ) (d : List ℕ) (r : WrittenAt) (left : List ℕ) → Writes (writeAt room i c d) (writer.toldAt r) left → Unwritten (writer.toldAt r) → left ≡ room
@@ -226,9 +225,9 @@ made-untouched (feeds {m} {g} {a} {e = s} x) n e =
 
 -- a call that is not refused read what it tells
 call-told : (h : Hub) (t : List ℕ) (s : State) (l : ℕ) (bytes : List ℕ) (room u : ℕ) (y : Option Outcome) (k : ℕ) → call hub h t s l bytes room .result .answer ≡ told u y k
-    → (feedRefusal t l room ≡ none) × (read s bytes .used ≡ u) × (read s bytes .outcome ≡ y)
+    → (feedRefusal h t s l bytes room ≡ none) × (read s bytes .used ≡ u) × (read s bytes .outcome ≡ y)
 unfolding call decided settled
-call-told h t s l bytes room u y k = go (feedRefusal t l room)
+call-told h t s l bytes room u y k = go (feedRefusal h t s l bytes room)
   where
     go : (r : Option ℕ) → decided hub h t l s (read s bytes) r .result .answer ≡ told u y k → (r ≡ none) × (read s bytes .used ≡ u) × (read s bytes .outcome ≡ y)
     go none e = (refl, cc, cc)
@@ -272,10 +271,10 @@ unfolding serveIf
 made-used-up {m} {g = g} x u n k e = rw (only-error-reply (m .hub) (m .table) (g .line) n) at (made-served x u (some (packet.refused n)) k e)
 
 -- the writer's refusals, by the laws of its definition
-writer-exactly : (room : List ℕ) (c : ℕ) (d : List ℕ) (r : Written) (left : List ℕ) → Writes (write room c d) (writer.told r) left → writingRefusal (writer.told r) ≡ writeRefusal (length room) (length d)
-writer-exactly room c d r left x = ap writingRefusal (x .answer ∙ write-refusal room c d) ∙ go (ltb (length room) minRoom) (ltb maxData (length d))
+writer-exactly : (room : List ℕ) (c : ℕ) (d : List ℕ) (r : Written) (left : List ℕ) → Writes (write room c d) (writer.told r) left → writingRefusal (writer.told r) ≡ writeRefusal (length room) c d
+writer-exactly room c d r left x = ap writingRefusal (x .answer ∙ write-refusal room c d) ∙ go (ltb maxData (length d)) (ltb (length room) (length (wire c d)))
   where
-    go : (a b : Bool) → writingRefusal (cond a (writer.refused 9) (cond b (writer.refused 10) (upTo (length (wire c d))))) ≡ refuseIf a writer.shortRoom (refuseIf b writer.longData none)
+    go : (a b : Bool) → writingRefusal (cond a (writer.refused 10) (cond b (writer.refused 9) (upTo (length (wire c d))))) ≡ refuseIf a writer.longData (refuseIf b writer.shortRoom none)
     go true b = refl
     go false true = refl
     go false false = refl
@@ -294,19 +293,11 @@ writer-place room i c d r left x u = x .room ∙ place-untouched room i c d (rw 
 pub demand-1 : Demand1
 demand-1 = record { any = steps-any; exactly = made-refusal; untouched = made-untouched; write-exactly = writer-exactly; write-untouched = writer-untouched; place-untouched = writer-place; without = steps-without (λ m v s o x n p. made-untouched x n p .memory); used-up = made-used-up }
 
--- a feed that is not refused was lent a table of the right length
-table-right : (t : List ℕ) (l room : ℕ) → feedRefusal t l room ≡ none → length t ≡ tableSize
-table-right t l room = go (eqb (length t) tableSize) refl
-  where
-    go : (b : Bool) → eqb (length t) tableSize ≡ b → cond {A = Option ℕ} (not b) (some wrongTable) (refuseLine l (refuseIf (ltb room minRoom) shortRoom none)) ≡ none → length t ≡ tableSize
-    go true q p = eqb-true (length t) tableSize q
-    go false q p = absurd (Option·none-ne-some wrongTable (sym p))
-
--- what is written: the reply to the outcome, which is frames on a table of the right length
-serveIf-frames : (h : Hub) (t : List ℕ) (l room : ℕ) (y : Option Outcome) → feedRefusal t l room ≡ none → Frames (serveIf hub h t l y .reply)
-unfolding serveIf sent
-serveIf-frames h t l room none p = record { frames = []; ends = tt; bytes = refl }
-serveIf-frames h t l room (some y) p = serve-frames h t l y (table-right t l room p)
+-- what is written: the reply to the outcome, which is frames
+serveIf-frames : (h : Hub) (t : List ℕ) (l : ℕ) (y : Option Outcome) → Frames (serveIf hub h t l y .reply)
+unfolding serveIf
+serveIf-frames h t l none = no-frames
+serveIf-frames h t l (some y) = serve-frames h t l y
 
 -- the front of a room in which a reply of k bytes stands is the reply
 front : (room reply lent : List ℕ) (k : ℕ) → room ≡ reply ++ lent → k ≡ length reply → Frames reply → Frames (take k room)
@@ -315,17 +306,16 @@ front room reply lent k e n x = rw (e, take-at reply lent k (sym n)) x
 made-frames : {m v : Memory} {g : Lent} {o : Got hub} → Made m (feed g) (fed o) v → (u : ℕ) (y : Option Outcome) (k : ℕ) → o .answer ≡ told u y k → Frames (take k (o .room))
 made-frames (feeds {m} {g} {a} {h} {t} {e = r′} {left} x) u y k e =
     let z = made-served (feeds {m = m} {g = g} {a = a} {h = h} {t = t} {e = r′} {left = left} x) u y k e in
-    let (p, used, outcome) = call-told (m .hub) (m .table) (taken (recordFor hub m g)) (g .line) (g .bytes) (length (g .room)) u y k (sym (x .answer) ∙ e) in
-    front left (serveIf hub (m .hub) (m .table) (g .line) y .reply) (drop k (g .room)) k (z .reply) (z .count) (serveIf-frames (m .hub) (m .table) (g .line) (length (g .room)) y p)
+    front left (serveIf hub (m .hub) (m .table) (g .line) y .reply) (drop k (g .room)) k (z .reply) (z .count) (serveIf-frames (m .hub) (m .table) (g .line) y)
 
 finish-frames : {m v : Memory} {x : ℕ} {room : List ℕ} {o : FinishedSession} → Made m (finish x room) (finished o) v → (l k : ℕ) → o .answer ≡ finishedOn l k → Frames (take k (o .room))
-finish-frames (finishes {m} {x} {room} {a} {h} {left} y) l k e = go (ltb (length room) minRoom) (sessions.finish (m .hub .slots) x) (sym (y .answer) ∙ e) (y .room)
+finish-frames (finishes {m} {x} {room} {a} {h} {left} y) l k e = go (sessions.finish (m .hub .slots) x) (ltb (length room) (length (notice x))) (sym (y .answer) ∙ e) (y .room)
   where
-    go : (b : Bool) (o : Option sessions.Finished) → finishBy b o (m .hub) x .answer ≡ finishedOn l k
-        → left ≡ finishBy b o (m .hub) x .reply ++ drop (length (finishBy b o (m .hub) x .reply)) room → Frames (take k left)
-    go true o q r = let z : _≡_ {A = ℕ} 0 1 = cc in absurd (omega arith)
-    go false none q r = let z : _≡_ {A = ℕ} 0 1 = cc in absurd (omega arith)
-    go false (some f) q r = let n : k ≡ length (notice x) = cc in front left (notice x) (drop (length (notice x)) room) k r n (notice-frames x)
+    go : (o : Option sessions.Finished) (b : Bool) → finishBy o b (m .hub) x .answer ≡ finishedOn l k
+        → left ≡ finishBy o b (m .hub) x .reply ++ drop (length (finishBy o b (m .hub) x .reply)) room → Frames (take k left)
+    go none b q r = let z : _≡_ {A = ℕ} 0 1 = cc in absurd (omega arith)
+    go (some f) true q r = let z : _≡_ {A = ℕ} 0 1 = cc in absurd (omega arith)
+    go (some f) false q r = let n : k ≡ length (notice x) = cc in front left (notice x) (drop (length (notice x)) room) k r n (notice-frames x)
 
 -- carried over from the definitions
 steps-guarded : {m e : Memory} {ss : List Step} {os : List Return} (x : Steps m ss os e) → Unprivileged x → Unchanged (m .hub) (m .table) (e .hub) (e .table)

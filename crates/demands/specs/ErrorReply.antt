@@ -3,8 +3,9 @@ use mathlib.Core.Path.{refl}
 use Rattle.frame.specs.Frame.{wire, escape, framed, body}
 use Rattle.frame.specs.Xor as xor
 use Rattle.feeds.specs.System.{OnlyErrorReply}
-use Rattle.rules.specs.Hub.{serve, hub}
+use Rattle.replies.specs.Messages.{bytesOf}
+use Rattle.rules.specs.Hub.{respond, serve, hub}
 
 pub only-error-reply : OnlyErrorReply hub
-unfolding serve wire escape framed body xor.xorAll xor._⊕_
+unfolding serve respond bytesOf wire escape framed body xor.xorAll xor._⊕_
 only-error-reply h t l n = refl

@@ -6,7 +6,6 @@ use mathlib.Core.List.{List, [], _∷_, map, append-nil, flatten}
 use native.Mathlib.Omega.{arith}
 use lib.ListN.{length, getD, length-map, List·getD-map}
 use Rattle.frame.specs.Reader.{emptied, emptiedReading, taken, final, step}
-use Rattle.frame.specs.Writer.{minRoom}
 use Rattle.nodes.specs.Table.{tableSize}
 use Rattle.feeds.specs.System.{Entry}
 use Rattle.feeds.specs.Marks.{usedOn, unmarked, answersOf}
@@ -19,6 +18,7 @@ use Rattle.feeds.specs.ServiceLaws.{map-unmarked, run-answers, run-end}
 use Rattle.feeds.specs.Demand3.{Line, recordAt, own-taken, has-line, Without}
 use Rattle.rules.specs.Hub.{hub, lineCount}
 use Rattle.rules.specs.Answers.{fedOf}
+use Rattle.rules.specs.Longest.{longestReply}
 use Rattle.demands.specs.Calls.{World}
 use Rattle.demands.specs.Steps.{Memory}
 use Rattle.demands.specs.Kept.{feed-any}
@@ -44,11 +44,11 @@ pub list-used : (m : Memory) (l : ℕ) → l < lineCount → length (m .table) �
 unfolding worldOf flatten
 list-used m l h size four bytes =
     let w : World = worldOf m in
-    let es : List Entry = inPieces hub l minRoom emptied w (bytes ∷ []) in
+    let es : List Entry = inPieces hub l longestReply emptied w (bytes ∷ []) in
     let (os, e, r) = run-any m (map lentOf es) in
     let F : FeedList = record { start = m; lent = map lentOf es; got = os; end = e; run = r } in
-    let same : entriesIn (feedsOf F) ≡ es = lent-entries es (pieces-every hub l minRoom emptied (λ x. x .spare ≡ emptied) (λ bs. refl) (bytes ∷ []) w) in
-    let used = feeding.used-up w l minRoom emptied h (omega arith) size (length-map (m .records) taken ∙ four) (bytes ∷ []) ∙ append-nil bytes in
+    let same : entriesIn (feedsOf F) ≡ es = lent-entries es (pieces-every hub l longestReply emptied (λ x. x .spare ≡ emptied) (λ bs. refl) (bytes ∷ []) w) in
+    let used = feeding.used-up w l longestReply emptied h (omega arith) size (length-map (m .records) taken ∙ four) (bytes ∷ []) ∙ append-nil bytes in
     (F, refl, ap (usedOn l (entriesIn (feedsOf F))) (run-answers (feedsOf F)) ∙ ap (λ (x : List Entry). usedOn l x (answersOf hub w x)) same ∙ used)
 
 -- a line's record at the end of a list on all lines is the definition's, by the bytes used on it

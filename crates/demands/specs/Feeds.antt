@@ -10,7 +10,6 @@ use lib.Dec.{eqb}
 use borrow.Author.Tests.{eqb-true, le-ltb}
 use Rattle.frame.specs.Frame as frames
 use Rattle.frame.specs.Reader.{also, State, emptied, read}
-use Rattle.frame.specs.Writer.{minRoom}
 use Rattle.nodes.specs.Table.{tableSize}
 use Rattle.feeds.specs.System.{Entry, told, stateFor, call, decided, returned, feed, results, errorReply}
 use Rattle.feeds.specs.Marks.{answersOf, outcomeOf, usedOn, toldOn}
@@ -23,11 +22,11 @@ use Rattle.rules.specs.Hub.{lineCount, wrongTable, wrongLine, refuseIf, feedRef
 use Rattle.demands.specs.Calls.{World}
 use Rattle.demands.specs.ErrorReply.{only-error-reply}
 use Rattle.rules.specs.Lengths.{serve-kept}
-use Rattle.rules.specs.Refusals.{not-refused}
+use Rattle.rules.specs.Longest.{longestReply, room-enough}
 
 module _ (h : Hub) (t : List ℕ) (s : State) (l : ℕ) (bytes : List ℕ) (room : ℕ) where
   -- a refused packet is used up, to its END, and brings one error reply only
-  pub refused-packet : (n : ℕ) → feedRefusal t l room ≡ none → read s bytes .outcome ≡ some (frames.refused n)
+  pub refused-packet : (n : ℕ) → feedRefusal h t s l bytes room ≡ none → read s bytes .outcome ≡ some (frames.refused n)
       → call hub h t s l bytes room ≡ record {
         hub = h;
         table = t;
@@ -36,18 +35,18 @@ module _ (h : Hub) (t : List ℕ) (s : State) (l : ℕ) (bytes : List ℕ) (room
       }
   refused-packet n p q = packet-refused hub h t s l bytes room only-error-reply n p q
 
--- a line of the four, with room for the longest wire form, and a table of the right length
-module _ (w : World) (l room : ℕ) (spare : State) (line : l < lineCount) (enough : minRoom ≤ room) (size : length (w .table) ≡ tableSize) (four : length (w .states) ≡ lineCount) where
+-- a line of the four, with room for the longest reply, and a table of the right length
+module _ (w : World) (l room : ℕ) (spare : State) (line : l < lineCount) (enough : longestReply ≤ room) (size : length (w .table) ≡ tableSize) (four : length (w .states) ≡ lineCount) where
   -- any bytes can be used up, in any pieces
   pub used-up : (pieces : List (List ℕ)) → usedOn l (inPieces hub l room spare w pieces) (answersOf hub w (inPieces hub l room spare w pieces)) ≡ flatten pieces
   used-up pieces =
-      pieces-used hub l room spare (λ h t. length t ≡ tableSize) (λ h t o k. serve-kept h t l o ∙ k) (λ h t s bs k. not-refused t l room k (omega arith) enough) pieces w size
+      pieces-used hub l room spare (λ h t. length t ≡ tableSize) (λ h t o k. serve-kept h t l o ∙ k) (λ h t s bs k. room-enough h t s l bs room k (omega arith) enough) pieces w size
 
   -- for every split of a byte list into pieces, each piece fed until used up: same outcomes, same replies in order, same hub, table
   -- and record as for the whole list fed until used up
   pub cut-anywhere : (pieces : List (List ℕ)) → Same hub l w (inPieces hub l room spare w pieces) (inPieces hub l room spare w (flatten pieces ∷ []))
   cut-anywhere pieces =
-      cut-same hub l w room spare (λ h t. length t ≡ tableSize) (λ h t o k. serve-kept h t l o ∙ k) (λ h t s bs k. not-refused t l room k (omega arith) enough)
+      cut-same hub l w room spare (λ h t. length t ≡ tableSize) (λ h t o k. serve-kept h t l o ∙ k) (λ h t s bs k. room-enough h t s l bs room k (omega arith) enough)
       size (omega arith) pieces
 
 -- ---- lines above 3

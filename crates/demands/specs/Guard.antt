@@ -15,25 +15,26 @@ use Rattle.rules.specs.declared.Hub.{Hub}
 use Rattle.demands.specs.Invariants.{Unchanged}
 use Rattle.demands.specs.Calls.{World, Call, start, enrol, close, finish, feed, after, afterAll, Unprivileged}
 use Rattle.memory.specs.Octets.{same}
-use Rattle.rules.specs.Hub.{Reply, failure, frameError, notLoggedIn, Password, enter, reply, request, isLoggedIn, serve, hub}
+use Rattle.replies.specs.Messages.{passwordEntered}
+use Rattle.rules.specs.Hub.{Response, failure, frameError, notLoggedIn, Password, enter, reply, request, isLoggedIn, respond, serve, hub}
 use Rattle.rules.specs.Cases.{either, each-verdict}
 
--- said of what serving leaves
-abbrev Guarded : Hub → List ℕ → Reply → Type 0
+-- said of what an outcome leaves
+abbrev Guarded : Hub → List ℕ → Response → Type 0
 Guarded h t r = Unchanged h t (r .hub) (r .table)
 
 failure-guarded : (h : Hub) (t : List ℕ) (e : ℕ) → Guarded h t (failure h t e)
 failure-guarded h t e = record { table = refl; password = refl; sessions = refl }
 
 -- password enter changes a login at the most
-enter-guarded : (h : Hub) (t : List ℕ) (l : ℕ) (d : List ℕ) → Guarded h t (reply (enter h l d .hub) t 0x3001 (enter h l d .status ∷ []))
+enter-guarded : (h : Hub) (t : List ℕ) (l : ℕ) (d : List ℕ) → Guarded h t (reply (enter h l d .hub) t (passwordEntered (enter h l d .status)))
 unfolding enter
 enter-guarded h t l d =
-    either (λ (p : Password). Guarded h t (reply (p .hub) t 0x3001 (p .status ∷ []))) (same d (h .password)) _ _
+    either (λ (p : Password). Guarded h t (reply (p .hub) t (passwordEntered (p .status)))) (same d (h .password)) _ _
     (record { table = refl; password = refl; sessions = refl }) (record { table = refl; password = refl; sessions = refl })
 
-pub serve-guarded : (h : Hub) (t : List ℕ) (l : ℕ) (o : Outcome) → isLoggedIn h l ≡ false → Guarded h t (serve h t l o)
-unfolding serve request
+pub serve-guarded : (h : Hub) (t : List ℕ) (l : ℕ) (o : Outcome) → isLoggedIn h l ≡ false → Guarded h t (respond h t l o)
+unfolding respond request
 serve-guarded h t l (refused n) e = failure-guarded h t frameError
 serve-guarded h t l (frame c d) e =
     each-verdict (Guarded h t) (directory.verdict c (length d)) _ _ (failure-guarded h t)
@@ -50,7 +51,7 @@ abbrev Same : World → World → Type 0
 Same w v = Unchanged (w .hub) (w .table) (v .hub) (v .table)
 
 feed-unchanged : (w : World) (e : feeds.Entry) → isLoggedIn (w .hub) (e .line) ≡ false → Same w (feeds.feed hub w e .0)
-unfolding feeds.settled feeds.serveIf feeds.returned
+unfolding feeds.settled feeds.serveIf feeds.returned serve
 feed-unchanged w e p = go (fed hub w e)
   where
     go : {x : World × feeds.Result} → Fed hub w e x → Same w (x .0)

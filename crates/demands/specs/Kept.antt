@@ -19,14 +19,13 @@ use Rattle.frame.specs.Answers as answers
 use Rattle.frame.specs.Line.{limit, recordOf, taken-held, taken-record, record-bounded}
 use Rattle.frame.specs.Reader.{State, emptiedReading, held, taken, read}
 use Rattle.frame.specs.ReaderLaws.{closed-number, read-told, read-held, read-data}
-use Rattle.frame.specs.Writer.{minRoom}
 use Rattle.nodes.specs.Table.{tableSize, isNode, inUse, emptied, enrolled}
 use Rattle.sessions.specs.Sessions as sessions
 use Rattle.feeds.specs.System as system
 use Rattle.feeds.specs.System.{Called, call, settled, serveIf}
 use Rattle.feeds.specs.CallLaws.{read-resets, call-refused, call-read}
 use Rattle.rules.specs.declared.Hub.{Hub}
-use Rattle.rules.specs.Hub.{lineCount, passwordSize, wrongTable, wrongLine, shortRoom, refuseIf, freshHub, closedLine, withSlots, notice, feedRefusal, hub}
+use Rattle.rules.specs.Hub.{lineCount, passwordSize, wrongTable, wrongLine, shortRoom, refuseIf, freshHub, closedLine, withSlots, notice, written, feedRefusal, hub}
 use Rattle.rules.specs.declared.CallRefusal.{CallRefusal}
 use Rattle.rules.specs.declared.CallRefusal.the-variants as call-cause
 use Rattle.rules.specs.declared.CallAnswer.{CallAnswer}
@@ -70,12 +69,12 @@ close-any h s l = go (not (ltb l lineCount)) refl
     )
 
 pub finish-any : (h : Hub) (x : ℕ) (room : List ℕ) → (a : FinishAnswer) × (h′ : Hub) × (left : List ℕ) × Finishes h x room a h′ left
-finish-any h x room = go (ltb (length room) minRoom) refl (sessions.finish (h .slots) x) refl
+finish-any h x room = go (ltb (length room) (length (notice x))) refl (sessions.finish (h .slots) x) refl
   where
-    go : (b : Bool) → ltb (length room) minRoom ≡ b → (o : Option sessions.Finished) → sessions.finish (h .slots) x ≡ o
+    go : (b : Bool) → ltb (length room) (length (notice x)) ≡ b → (o : Option sessions.Finished) → sessions.finish (h .slots) x ≡ o
         → (a : FinishAnswer) × (h′ : Hub) × (left : List ℕ) × Finishes h x room a h′ left
-    go true p o q = (finish-answer.Refused call-cause.ShortRoom, h, room, record { answer = rw p; hub = rw p; room = rw p })
-    go false p none q = (finish-answer.Refused call-cause.NotOpen, h, room, record { answer = rw (p, q); hub = rw (p, q); room = rw (p, q) })
+    go b p none q = (finish-answer.Refused call-cause.NotOpen, h, room, record { answer = rw q; hub = rw q; room = rw q })
+    go true p (some f) q = (finish-answer.Refused call-cause.ShortRoom, h, room, record { answer = rw (p, q); hub = rw (p, q); room = rw (p, q) })
     go false p (some f) q = (
       finish-answer.Finished (f .line) (length (notice x)),
       withSlots h (f .slots),
@@ -135,8 +134,9 @@ held-outcome s w x (some (refused n)) e =
     }
 
 -- a feed's refusal is that of a cause
-refusal-cause : (t : List ℕ) (l room n : ℕ) → feedRefusal t l room ≡ some n → (c : CallRefusal) × (number c ≡ n)
-refusal-cause t l room n = go (not (eqb (length t) tableSize)) (not (ltb l lineCount)) (ltb room minRoom)
+refusal-cause : (h : Hub) (t : List ℕ) (s : State) (l : ℕ) (bytes : List ℕ) (room n : ℕ) → feedRefusal h t s l bytes room ≡ some n → (c : CallRefusal) × (number c ≡ n)
+refusal-cause h t s l bytes room n =
+    go (not (eqb (length t) tableSize)) (not (ltb l lineCount)) (ltb room (length (written h t l (read s bytes .outcome))))
   where
     go : (a b d : Bool) → refuseIf a wrongTable (refuseIf b wrongLine (refuseIf d shortRoom none)) ≡ some n → (c : CallRefusal) × (number c ≡ n)
     go true b d e = (call-cause.WrongTable, cc)
@@ -148,15 +148,15 @@ refusal-cause t l room n = go (not (eqb (length t) tableSize)) (not (ltb l lineC
 pub feed-any : (h : Hub) (t : List ℕ) (r : Reading) (l : ℕ) (bytes space : List ℕ)
     → (a : FeedAnswer) × (h′ : Hub) × (t′ : List ℕ) × (e : Reading) × (left : List ℕ) × Feeds h t r l bytes space a h′ t′ e left
 unfolding settled
-feed-any h t r l bytes space = go (feedRefusal t l (length space)) refl
+feed-any h t r l bytes space = go (feedRefusal h t (taken r) l bytes (length space)) refl
   where
     s : State
     s = taken r
 
-    go : (x : Option ℕ) → feedRefusal t l (length space) ≡ x
+    go : (x : Option ℕ) → feedRefusal h t s l bytes (length space) ≡ x
         → (a : FeedAnswer) × (h′ : Hub) × (t′ : List ℕ) × (e : Reading) × (left : List ℕ) × Feeds h t r l bytes space a h′ t′ e left
     go (some n) p =
-        let (c, z) = refusal-cause t l (length space) n p in
+        let (c, z) = refusal-cause h t s l bytes (length space) n p in
         let e = sym (call-refused hub h t s l bytes (length space) n p) in (
           feed.Refused c,
           h,

@@ -11,7 +11,6 @@ use lib.Seq.{getD-set-same, getD-set-other}
 use lib.Dec.{leb, ltb, eqb}
 use borrow.Author.Tests.{eqb-true, eqb-false, ne-eqb, ltb-false, leb-true, le-leb}
 use Rattle.frame.specs.Frame.{Outcome, frame, refused}
-use Rattle.frame.specs.Writer.{minRoom}
 use Rattle.nodes.specs.Table as table
 use Rattle.sessions.specs.Sessions as sessions
 use Rattle.directory.specs.Directory.{directory}
@@ -21,13 +20,14 @@ use Rattle.feeds.specs.Marks.{outcomeOf}
 use Rattle.feeds.specs.SystemLaws.{Fed, barred, done, fed}
 use Rattle.rules.specs.declared.Hub.{Hub}
 use Rattle.memory.specs.Octets.{same}
+use Rattle.replies.specs.Messages.{passwordEntered}
 use Rattle.rules.specs.Hub as rules
 use Rattle.rules.specs.Cases.{either, each-verdict, each-request}
 use Rattle.demands.specs.Calls.{World, Call, start, enrol, close, finish, feed, after, afterAll, isPassword, unlessRefused, loggedBy, loggedByAll}
 
 -- ---- serving an outcome
 
-abbrev Kept : Hub → rules.Reply → Type 0
+abbrev Kept : Hub → rules.Response → Type 0
 Kept h r = r .hub .logins ≡ h .logins
 
 change-kept : (h : Hub) (old new : List ℕ) → rules.change h old new .hub .logins ≡ h .logins
@@ -36,10 +36,10 @@ change-kept h old new = either (λ (p : rules.Password). p .hub .logins ≡ h .l
 
 -- every request but password enter leaves the logins
 request-kept : (h : Hub) (t : List ℕ) (l c : ℕ) (d : List ℕ) → eqb c 0x3000 ≡ false → Kept h (rules.request h t l c d)
-unfolding rules.getNode rules.removeNodes rules.virginState rules.modeSend
+unfolding rules.removeNodes rules.virginState rules.modeSend
 request-kept h t l c d e =
     each-request (Kept h) h t l c d (λ x. absurd (false≢true (sym e ∙ x))) (change-kept h _ _)
-    (either (Kept h) (table.inUse t (getD d 0 0)) _ _ refl refl) refl refl refl refl refl refl refl
+    refl refl refl refl refl refl refl refl
 
 -- password enter is known with 32 data bytes
 enter-verdict : (n : ℕ) → lookup.verdict 0x3000 n ≡ cond (leb 32 n && leb n 32) none (some lookup.frameError)
@@ -58,7 +58,7 @@ out-of-range n e = go (leb 32 n) (leb n 32) refl refl
 -- password enter logs its line in exactly by the right password
 enter-logins : (h : Hub) (t : List ℕ) (l : ℕ) (d : List ℕ) → rules.serve h t l (frame 0x3000 d) .hub .logins
     ≡ cond (eqb (length d) rules.passwordSize && same d (h .password)) (set (h .logins) l 1) (h .logins)
-unfolding rules.serve rules.request rules.enter
+unfolding rules.serve rules.respond rules.request rules.enter
 enter-logins h t l d = rw (enter-verdict (length d)) (go (eqb (length d) 32) refl (rules.isLoggedIn h l) (same d (h .password)))
   where
     entered : Bool → rules.Password
@@ -67,7 +67,7 @@ enter-logins h t l d = rw (enter-verdict (length d)) (go (eqb (length d) 32) ref
         (record { status = rules.incorrect; hub = h })
 
     fits : (i s : Bool)
-        → cond (i || true) (rules.reply (entered s .hub) t 0x3001 (entered s .status ∷ [])) (rules.failure h t rules.notLoggedIn) .hub .logins
+        → cond (i || true) (rules.reply (entered s .hub) t (passwordEntered (entered s .status))) (rules.failure h t rules.notLoggedIn) .hub .logins
         ≡ cond s (set (h .logins) l 1) (h .logins)
     fits true true = refl
     fits true false = refl
@@ -76,7 +76,7 @@ enter-logins h t l d = rw (enter-verdict (length d)) (go (eqb (length d) 32) ref
 
     go : (b : Bool) → eqb (length d) 32 ≡ b → (i s : Bool)
         → rules.byVerdict (cond (leb 32 (length d) && leb (length d) 32) none (some lookup.frameError)) (rules.failure h t)
-        (cond (i || true) (rules.reply (entered s .hub) t 0x3001 (entered s .status ∷ [])) (rules.failure h t rules.notLoggedIn)) .hub .logins
+        (cond (i || true) (rules.reply (entered s .hub) t (passwordEntered (entered s .status))) (rules.failure h t rules.notLoggedIn)) .hub .logins
         ≡ cond (b && s) (set (h .logins) l 1) (h .logins)
     go true e i s =
         let n : length d ≡ 32 = eqb-true (length d) 32 e in
@@ -85,7 +85,7 @@ enter-logins h t l d = rw (enter-verdict (length d)) (go (eqb (length d) 32) ref
 
 pub serve-logins : (h : Hub) (t : List ℕ) (l : ℕ) (o : Outcome)
     → rules.serve h t l o .hub .logins ≡ cond (isPassword h (some o)) (set (h .logins) l 1) (h .logins)
-unfolding isPassword rules.serve
+unfolding isPassword rules.serve rules.respond
 serve-logins h t l (refused n) = refl
 serve-logins h t l (frame c d) = go (eqb c 0x3000) refl
   where
@@ -137,12 +137,12 @@ call-logged l w (close k spare) four h = go (ltb k rules.lineCount) refl
         ≡ cond (eqb k l) false (rules.isLoggedIn (w .hub) l)
     go true e = set-logged (w .hub .logins) k l 0 (omega arith)
     go false e = rw (ne-eqb k l (λ x. omega (arith, ltb-false k rules.lineCount e)))
-call-logged l w (finish x room) four h = go (ltb room minRoom) (sessions.finish (w .hub .slots) x)
+call-logged l w (finish x room) four h = go (sessions.finish (w .hub .slots) x) (ltb room (length (rules.notice x)))
   where
-    go : (b : Bool) (o : Option sessions.Finished) → rules.isLoggedIn (rules.finishBy b o (w .hub) x .hub) l ≡ rules.isLoggedIn (w .hub) l
-    go true o = refl
-    go false none = refl
-    go false (some f) = refl
+    go : (o : Option sessions.Finished) (b : Bool) → rules.isLoggedIn (rules.finishBy o b (w .hub) x .hub) l ≡ rules.isLoggedIn (w .hub) l
+    go none b = refl
+    go (some f) true = refl
+    go (some f) false = refl
 call-logged l w (feed e) four h =
     ap (λ (ls : List ℕ). rules.isListed ls l) (feed-logins w e)
     ∙ go (isPassword (w .hub) (outcomeOf (feeds.feed rules.hub w e .1 .answer))) (eqb (e .line) l) (set-logged (w .hub .logins) (e .line) l 1 (omega arith))
@@ -167,12 +167,12 @@ call-four w (close k spare) four = go (rules.closeRefusal k)
     go : (o : Option ℕ) → length (rules.closeBy o (w .hub) (getD (w .states) k spare) k .hub .logins) ≡ rules.lineCount
     go none = length-set (w .hub .logins) k 0 ∙ four
     go (some n) = four
-call-four w (finish x room) four = go (ltb room minRoom) (sessions.finish (w .hub .slots) x)
+call-four w (finish x room) four = go (sessions.finish (w .hub .slots) x) (ltb room (length (rules.notice x)))
   where
-    go : (b : Bool) (o : Option sessions.Finished) → length (rules.finishBy b o (w .hub) x .hub .logins) ≡ rules.lineCount
-    go true o = four
-    go false none = four
-    go false (some f) = four
+    go : (o : Option sessions.Finished) (b : Bool) → length (rules.finishBy o b (w .hub) x .hub .logins) ≡ rules.lineCount
+    go none b = four
+    go (some f) true = four
+    go (some f) false = four
 call-four w (feed e) four = ap length (feed-logins w e) ∙ go (isPassword (w .hub) (outcomeOf (feeds.feed rules.hub w e .1 .answer)))
   where
     go : (p : Bool) → length (cond p (set (w .hub .logins) (e .line) 1) (w .hub .logins)) ≡ rules.lineCount

@@ -7,7 +7,6 @@ use native.Mathlib.Omega.{arith}
 use lib.ListN.{length, getD, replicate}
 use lib.Dec.{ltb}
 use Rattle.frame.specs.Frame.{Outcome, frame, refused}
-use Rattle.frame.specs.Writer.{minRoom}
 use Rattle.nodes.specs.Table as table
 use Rattle.sessions.specs.declared.Slot.{Slot}
 use Rattle.sessions.specs.Sessions as sessions
@@ -17,7 +16,7 @@ use Rattle.feeds.specs.System as feeds
 use Rattle.feeds.specs.SystemLaws.{Fed, barred, done, fed}
 use Rattle.rules.specs.declared.Hub.{Hub}
 use Rattle.memory.specs.Octets.{same}
-use Rattle.rules.specs.Hub.{Reply, Password, enter, change, getNode, removeNodes, virginState, modeSend, request, mayAsk, serve, startRefusal, startBy, closeRefusal, closeBy, finishBy, hub}
+use Rattle.rules.specs.Hub.{Response, Password, enter, change, removeNodes, virginState, modeSend, request, mayAsk, respond, serve, startRefusal, startBy, closeRefusal, closeBy, finishBy, notice, hub}
 use Rattle.rules.specs.Cases.{either, each-verdict, each-request}
 use Rattle.demands.specs.Invariants.{OneAtMost}
 use Rattle.demands.specs.Calls.{World, Call, start, enrol, close, finish, feed, after, afterAll}
@@ -26,7 +25,7 @@ module _ (n : ℕ) where
   abbrev One : Hub → Type 0
   One = OneAtMost n
 
-  abbrev Kept : Reply → Type 0
+  abbrev Kept : Response → Type 0
   Kept r = One (r .hub)
 
   -- nobody holds anything in free slots
@@ -43,19 +42,15 @@ module _ (n : ℕ) where
   unfolding change
   changed h old new p = either (λ (x : Password). One (x .hub)) (same old (h .password)) _ _ p p
 
-  got : (h : Hub) (t : List ℕ) (k : ℕ) → One h → One (getNode h t k .hub)
-  unfolding getNode
-  got h t k p = either Kept (table.inUse t k) _ _ p p
-
   request-one : (h : Hub) (t : List ℕ) (l c : ℕ) (d : List ℕ) → One h → One (request h t l c d .hub)
   unfolding removeNodes virginState modeSend
   request-one h t l c d p =
-      each-request Kept h t l c d (λ e. entered h l d p) (changed h _ _ p) (got h t (getD d 0 0) p) p p p
+      each-request Kept h t l c d (λ e. entered h l d p) (changed h _ _ p) p p p p
       (omega (arith, close-holders n (sessions.holdsRemoved t d) (h .slots))) (omega (arith, close-holders n (λ (s : Slot). true) (h .slots)))
       (modeSend-holders n (h .slots) t l (sessions.modeSendOf d) p) p
 
   pub serve-one : (h : Hub) (t : List ℕ) (l : ℕ) (o : Outcome) → One h → One (serve h t l o .hub)
-  unfolding serve
+  unfolding serve respond
   serve-one h t l (refused x) p = p
   serve-one h t l (frame c d) p = each-verdict Kept (directory.verdict c (length d)) _ _ (λ e. p) (either Kept (mayAsk (h .logins) l c) _ _ (request-one h t l c d p) p)
 
@@ -81,12 +76,12 @@ module _ (n : ℕ) where
       go : (o : Option ℕ) → One (closeBy o (w .hub) (getD (w .states) l spare) l .hub)
       go (some m) = p
       go none = omega (arith, close-holders n (sessions.isOn l) (w .hub .slots))
-  call-one w (finish x room) p = go (ltb room minRoom) (sessions.finish (w .hub .slots) x) (finish-holders n (w .hub .slots) x)
+  call-one w (finish x room) p = go (sessions.finish (w .hub .slots) x) (ltb room (length (notice x))) (finish-holders n (w .hub .slots) x)
     where
-      go : (b : Bool) (o : Option sessions.Finished) → holders n (leftBy o (w .hub .slots)) ≤ holders n (w .hub .slots) → One (finishBy b o (w .hub) x .hub)
-      go true o h = p
-      go false none h = p
-      go false (some f) h = omega arith
+      go : (o : Option sessions.Finished) (b : Bool) → holders n (leftBy o (w .hub .slots)) ≤ holders n (w .hub .slots) → One (finishBy o b (w .hub) x .hub)
+      go none b h = p
+      go (some f) true h = p
+      go (some f) false h = omega arith
   call-one w (feed e) p = feed-one w e p
 
   -- the theorem

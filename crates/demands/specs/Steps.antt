@@ -9,7 +9,6 @@ use lib.ListN.{length, getD, set}
 use lib.Dec.{ltb, eqb}
 use Rattle.line.specs.declared.Reading.{Reading}
 use Rattle.frame.specs.Reader.{taken}
-use Rattle.frame.specs.Writer.{minRoom}
 use Rattle.sessions.specs.Search.{any}
 use Rattle.sessions.specs.Sessions as sessions
 use Rattle.sessions.specs.Sessions.{isNumbered}
@@ -75,14 +74,14 @@ pub data Steps : Memory → List Step → List Return → Memory → Type 0 wher
 
 -- ---- refusals
 
--- the refusal that applies to a call, if any, in the order of the numbers
+-- the refusal that applies to a call, if any, in the order of the numbers, 9 last
 unfoldable pub refusal : Memory → Step → Option ℕ
 refusal m (start p) = rules.startRefusal (m .table) p
 refusal m (enrol n type) = rules.enrolRefusal (m .table) n
 refusal m (close l spare) = rules.closeRefusal l
 refusal m (finish x room) =
-    rules.refuseIf (ltb (length room) minRoom) rules.shortRoom (rules.refuseIf (not (any (isNumbered x) (m .hub .slots))) sessions.notOpen none)
-refusal m (feed g) = rules.feedRefusal (m .table) (g .line) (length (g .room))
+    rules.refuseIf (not (any (isNumbered x) (m .hub .slots))) sessions.notOpen (rules.refuseIf (ltb (length room) (length (rules.notice x))) rules.shortRoom none)
+refusal m (feed g) = rules.feedRefusal (m .hub) (m .table) (taken (recordFor hub m g)) (g .line) (g .bytes) (length (g .room))
 
 -- the one that finish tells, and feed
 unfoldable pub finishTells : Finish → Option ℕ

@@ -9,7 +9,6 @@ use lib.ListN.{length, set, List·getD-map}
 use lib.Dec.{eqb, ltb}
 use Rattle.line.specs.declared.Reading.{Reading}
 use Rattle.frame.specs.Reader.{State, emptiedReading, read, taken}
-use Rattle.frame.specs.Writer.{minRoom}
 use Rattle.sessions.specs.Search.{any}
 use Rattle.sessions.specs.Sessions as sessions
 use Rattle.feeds.specs.System as system
@@ -77,14 +76,14 @@ unfolding refusal refusalTold finishTells feedTells sessions.finish system.call 
 made-refusal (starts {m} {p} a x) = ap (λ (z : rules.Started). z .refusal) x ∙ start-refusal (m .hub) (m .table) p
 made-refusal (enrols {m} {n} {type} a x) = ap (λ (z : rules.Enrolled). z .refusal) x ∙ enrol-refusal (m .table) n type
 made-refusal (closes {m} {l} {spare} x) = x .refusal ∙ close-refusal (m .hub) (taken (lineRecord m l spare)) l
-made-refusal (finishes {m} {x} {room} y) = ap finishTells (y .answer) ∙ go (ltb (length room) minRoom) (any (sessions.isNumbered x) (m .hub .slots)) _
+made-refusal (finishes {m} {x} {room} y) = ap finishTells (y .answer) ∙ go (ltb (length room) (length (rules.notice x))) (any (sessions.isNumbered x) (m .hub .slots)) _
   where
     go : (a b : Bool) (f : sessions.Finished)
-        → finishTells (rules.finishBy a (cond b (some f) none) (m .hub) x .answer) ≡ rules.refuseIf a rules.shortRoom (rules.refuseIf (not b) sessions.notOpen none)
-    go true b f = refl
+        → finishTells (rules.finishBy (cond b (some f) none) a (m .hub) x .answer) ≡ rules.refuseIf (not b) sessions.notOpen (rules.refuseIf a rules.shortRoom none)
+    go a false f = refl
+    go true true f = refl
     go false true f = refl
-    go false false f = refl
-made-refusal (feeds {m} {g} x) = ap feedTells (x .answer) ∙ go (rules.feedRefusal (m .table) (g .line) (length (g .room)))
+made-refusal (feeds {m} {g} x) = ap feedTells (x .answer) ∙ go (rules.feedRefusal (m .hub) (m .table) (taken (recordFor rules.hub m g)) (g .line) (g .bytes) (length (g .room)))
   where
     s : State
     s = taken (recordFor rules.hub m g)

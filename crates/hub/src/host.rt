@@ -1,13 +1,13 @@
 // The host's calls: the hub before any start, start, enrol, finish a session (document 01, "What the commands do").
 // The hub goes in and out by value; the node table and the reply room are lent.
-ghost use Prim.Native.Nat.{_≤_};
 ghost use mathlib.Core.Path.{_≡_};
-ghost use lib.ListN.{length};
-ghost use Rattle.frame.specs.Writer.{minRoom};
-ghost use Rattle.rules.specs.Room.{Replied};
-ghost use Rattle.rules.specs.Hub.{freshHub, firstHub, withSlots, notice};
+ghost use mathlib.Core.Option.{some};
+ghost use Rattle.sessions.specs.Sessions.{finish};
+ghost use Rattle.rules.specs.Hub.{freshHub, firstHub, withSlots};
 ghost use Rattle.rules.specs.Promises.{Starts, Enrols, Finishes};
+ghost use Rattle.hub.specs.Parts.{refusedFinish};
 use frame::Written;
+use replies::Reply;
 use rules::CallAnswer;
 use rules::CallRefusal;
 use rules::FinishAnswer;
@@ -83,29 +83,47 @@ pub fn enrol(table: &mut [u8], node: u8, kind: u16) -> CallAnswer
 pub fn finish(hub: Hub, session: u16, room: &mut [u8]) -> Finished
     ensures { λ r. ⌜ Finishes hub session (now (room .entry)) (r .answer) (r .hub) (now (room .exit)) ⌝ }
 {
-    if room.len() < frame::ROOM {
-        return Finished {
-            answer: FinishAnswer::Refused(CallRefusal::ShortRoom),
-            hub: hub,
-        };
-    }
     let opened = hub.slots;
     let ended = sessions::finish(opened, session);
     let told = ended.told;
-    let slots = ended.slots;
+    let left = ended.slots;
     match told {
-        Owner::NotOpen => Finished {
-            answer: FinishAnswer::Refused(CallRefusal::NotOpen),
-            hub: hub,
-        },
-        Owner::Line(line) => {
-            let len = notice(room, session);
-            let next = with_slots(hub, slots);
+        Owner::NotOpen => refused(hub, CallRefusal::NotOpen),
+        Owner::Line(line) => notify(hub, left, line, session, room),
+    }
+}
+
+fn refused(hub: Hub, refusal: CallRefusal) -> Finished
+    ensures { λ r. ⌜ r ≡ refusedFinish hub refusal ⌝ }
+{
+    Finished {
+        answer: FinishAnswer::Refused(refusal),
+        hub: hub,
+    }
+}
+
+// The notice is written, if there is room for it; then the session is closed.
+fn notify(
+    hub: Hub,
+    left: [Slot; sessions::SLOTS],
+    line: u8,
+    session: u16,
+    room: &mut [u8],
+) -> Finished
+    requires { ⌜ finish (hub .slots) session ≡ some (record { line = line; slots = left }) ⌝ }
+    ensures { λ r. ⌜ Finishes hub session (now (room .entry)) (r .answer) (r .hub) (now (room .exit)) ⌝ }
+{
+    let nothing: [u8; 0] = [];
+    match replies::write(room, Reply::SessionFinished(session), &nothing) {
+        Written::Length(len) => {
+            let next = with_slots(hub, left);
             Finished {
                 answer: FinishAnswer::Finished { line, len },
                 hub: next,
             }
         }
+        Written::ShortRoom => refused(hub, CallRefusal::ShortRoom),
+        Written::LongData => refused(hub, CallRefusal::ShortRoom),
     }
 }
 
@@ -119,18 +137,5 @@ fn with_slots(hub: Hub, slots: [Slot; sessions::SLOTS]) -> Hub
         password: password,
         logins: logins,
         slots: slots,
-    }
-}
-
-// Frame 0304 with a session's number.
-fn notice(room: &mut [u8], session: u16) -> usize
-    requires { ⌜ minRoom ≤ length (now room) ⌝ }
-    ensures { λ r. ⌜ Replied (notice session) (now (room .entry)) r (now (room .exit)) ⌝ }
-{
-    let bytes = [(session / 256) as u8, (session % 256) as u8];
-    match frame::write(room, 0x0304, &bytes) {
-        Written::Length(n) => n,
-        Written::ShortRoom => 0,
-        Written::LongData => 0,
     }
 }

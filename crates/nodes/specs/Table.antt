@@ -91,6 +91,10 @@ setField f t n vs =
     (record { status = accepted; table = withField t n f vs })
     (record { status = invalidNode; table = t })
 
+-- the status alone
+abbrev pub nodeStatus : List ℕ → ℕ → ℕ
+nodeStatus t n = cond (inUse t n) accepted invalidNode
+
 abbrev pub setName : List ℕ → ℕ → List ℕ → Result
 setName = setField nameField
 
@@ -117,19 +121,43 @@ setVariation t n v =
 abbrev pub informationSize : ℕ
 informationSize = 124
 
+-- what is told of a node: its number, and the fields that the hub keeps, as they lie in its record
+pub record Information : Type 0 where
+  pub node : ℕ
+  pub order : List ℕ
+  pub placement : List ℕ
+  pub name : List ℕ
+  pub type : List ℕ
+  pub variation : List ℕ
+
+abbrev pub informationOf : List ℕ → ℕ → Information
+informationOf t n = record {
+  node = n;
+  order = fieldOf t n orderField;
+  placement = fieldOf t n placementField;
+  name = fieldOf t n nameField;
+  type = fieldOf t n typeField;
+  variation = fieldOf t n variationField;
+}
+
 -- frame 0210, 124 data bytes by section 8.3.3, with fields that the hub does not keep set to zero: NodeID, Order, Placement, Name,
 -- Velocity, NodeTypeSubType, ProductGroup, ProductType, NodeVariation, and from PowerMode on all that is not kept
+abbrev pub informationData : Information → List ℕ
+informationData i =
+    (i .node ∷ []) ++ i .order ++ i .placement ++ i .name ++ (0 ∷ []) ++ i .type ++ (0 ∷ 0 ∷ []) ++ i .variation ++ replicate 50 0
+
 unfoldable pub information : List ℕ → ℕ → List ℕ
-information t n =
-    (n ∷ []) ++ fieldOf t n orderField ++ fieldOf t n placementField ++ fieldOf t n nameField
-    ++ (0 ∷ []) ++ fieldOf t n typeField ++ (0 ∷ 0 ∷ []) ++ fieldOf t n variationField ++ replicate 50 0
+information t n = informationData (informationOf t n)
 
 -- what is told of a node: nothing of one that is not in use, and nothing by a table of another length
+abbrev pub isTold : List ℕ → ℕ → Bool
+isTold t n = eqb (length t) tableSize && inUse t n
+
 abbrev pub nothing : Informed
 nothing = record { known = false; bytes = replicate informationSize 0 }
 
 unfoldable pub informed : List ℕ → ℕ → Informed
-informed t n = cond (eqb (length t) tableSize && inUse t n) (record { known = true; bytes = information t n }) nothing
+informed t n = cond (isTold t n) (record { known = true; bytes = information t n }) nothing
 
 -- ---- remove nodes, virgin state
 

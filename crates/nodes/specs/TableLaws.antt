@@ -11,7 +11,7 @@ use borrow.Author.Tests.{ltb-true, eq-eqb}
 use Rattle.nodes.specs.declared.Field.{Field}
 use Rattle.nodes.specs.declared.Informed.{Informed}
 use Rattle.nodes.specs.Cases.{either}
-use Rattle.nodes.specs.Table.{tableSize, recordSize, nodeCount, useField, typeField, nameField, orderField, placementField, variationField, spareField, orderAndPlacement, fieldOf, inUse, setField, isRejected, setVariation, Result, informationSize, information, nothing, informed, isRemoved, emptyRecord, removeOne, removeBelow}
+use Rattle.nodes.specs.Table.{tableSize, recordSize, nodeCount, useField, typeField, nameField, orderField, placementField, variationField, spareField, orderAndPlacement, fieldOf, withField, inUse, accepted, invalidNode, setField, isRejected, setVariation, Result, nodeStatus, informationSize, information, nothing, informed, isRemoved, emptyRecord, removeOne, removeBelow}
 
 -- the fields fill a record one behind the other
 fields-fill : (useField .at + useField .size ≡ typeField .at) × (typeField .at + typeField .size ≡ nameField .at)
@@ -32,6 +32,15 @@ setField-length f t n vs = either (λ (r : Result). length (r .table) ≡ length
 pub setVariation-length : (t : List ℕ) (n v : ℕ) → length (setVariation t n v .table) ≡ length t
 unfolding setVariation
 setVariation-length t n v = either (λ (r : Result). length (r .table) ≡ length t) (isRejected t n v) _ _ refl (setField-length variationField t n (v ∷ []))
+
+-- the status of a node set command is told before it
+pub setField-status : (f : Field) (t : List ℕ) (n : ℕ) (vs : List ℕ) → setField f t n vs .status ≡ nodeStatus t n
+unfolding setField
+setField-status f t n vs = go (inUse t n)
+  where
+    go : (b : Bool) → cond {A = Result} b (record { status = accepted; table = withField t n f vs }) (record { status = invalidNode; table = t }) .status ≡ cond b accepted invalidNode
+    go true = refl
+    go false = refl
 
 removeOne-length : (bits : List ℕ) (n : ℕ) (t : List ℕ) → length (removeOne bits n t) ≡ length t
 unfolding removeOne

@@ -2,7 +2,7 @@
 // Statuses and tables are those of specs/Table.antt: setName, setOrderAndPlacement, setVariation.
 ghost use Prim.Native.Nat.{_≤_, min};
 ghost use mathlib.Core.Path.{_≡_};
-ghost use Rattle.nodes.specs.Table.{recordSize, setField, setName, setOrderAndPlacement, setVariation, isRejected};
+ghost use Rattle.nodes.specs.Table.{recordSize, nodeStatus, setField, setName, setOrderAndPlacement, setVariation, isRejected};
 ghost use Rattle.nodes.specs.Answers.{Results};
 use crate::Field;
 
@@ -30,6 +30,25 @@ pub fn set_variation(table: &mut [u8], node: u8, variation: u8) -> u8
     }
     let value = [variation];
     set_field(table, node as usize, crate::VARIATION, &value)
+}
+
+// The status that each gives, before anything is stored.
+pub fn status(table: &[u8], node: u8) -> u8
+    ensures { λ r. ⌜ r ≡ nodeStatus (now (table .entry)) node ⌝ }
+{
+    if crate::table::in_use(table, node as usize) {
+        return crate::ACCEPTED;
+    }
+    crate::INVALID_NODE
+}
+
+pub fn variation_status(table: &[u8], node: u8, variation: u8) -> u8
+    ensures { λ r. ⌜ r ≡ setVariation (now (table .entry)) node variation .status ⌝ }
+{
+    if is_rejected(table, node as usize, variation) {
+        return crate::REJECTED;
+    }
+    status(table, node)
 }
 
 // Whether the node is in use, and the variation too great for it.

@@ -11,6 +11,8 @@ pub use enrolment::enrol;
 pub use fields::set_name;
 pub use fields::set_order_and_placement;
 pub use fields::set_variation;
+pub use fields::status;
+pub use fields::variation_status;
 pub use notification::information;
 pub use table::bit;
 pub use table::in_use;

@@ -1,20 +1,20 @@
-// Feed, with the record in and out by value, or its bytes where they lie: the call's refusals, then reading up to the first outcome, and serving it (document 01, "Feed
-// takes a line, bytes and reply room"). It stands on the reader of frames and on the requests.
-ghost use Prim.Native.Nat.{_≤_, _<_};
+// Feed, with the record in and out by value, or its bytes where they lie (document 01, "Feed takes a line, bytes and reply room"): the call's
+// first refusals; reading up to the first outcome, on a copy of the record; what is answered, decided; refusal 9 or the reply written; and
+// only then table and record changed. It stands on the reader of frames, on the replies and on the requests.
+ghost use Prim.Native.Nat.{_<_};
 ghost use mathlib.Core.Path.{_≡_};
 ghost use lib.ListN.{length};
 ghost use Rattle.frame.specs.Line.{limit};
 ghost use Rattle.frame.specs.Answers.{told, Within};
-ghost use Rattle.frame.specs.Writer.{minRoom};
-ghost use Rattle.nodes.specs.Table.{tableSize};
-ghost use Rattle.feeds.specs.System.{serveIf};
-ghost use Rattle.rules.specs.Hub.{lineCount, hub as system};
+ghost use Rattle.rules.specs.Hub.{lineCount, respondIf};
 ghost use Rattle.rules.specs.Promises.{Feeds};
-ghost use Rattle.requests.specs.Answers.{readingAt, refusedFeed, fedOf, Serves};
-use crate::Served;
+ghost use Rattle.requests.specs.Answers.{readingAt, refusedFeed, fedOf, dataIn, storedBy, Decides, Enough};
+use crate::Decided;
 use frame::FrameOutcome;
+use frame::Written;
 use line::Place;
 use line::Reading;
+use replies::Reply;
 use rules::CallRefusal;
 use rules::FedAt;
 use rules::FedByValue;
@@ -65,20 +65,26 @@ pub fn call_in(
     if rules::LINES <= line as usize {
         return refused(hub, place, CallRefusal::WrongLine);
     }
-    if room.len() < frame::ROOM {
-        return refused(hub, place, CallRefusal::ShortRoom);
-    }
-    let read = frame::read_in(held, place, bytes);
+    let mut tried = *held;
+    let read = frame::read_in(&mut tried, place, bytes);
     let used = read.used;
     let outcome = read.outcome;
     let after = read.place;
-    let served = serve_outcome(hub, table, room, line, outcome, held);
-    let next = served.hub;
-    let len = served.len;
-    FedAt {
-        answer: FeedAnswer::Told { used, outcome, len },
-        hub: next,
-        place: after,
+    let decided = decide_outcome(hub, table, line, outcome, &tried);
+    let reply = decided.reply;
+    match replies::write(room, reply, table) {
+        Written::Length(len) => {
+            store_outcome(table, reply, outcome, &tried);
+            *held = tried;
+            let next = decided.hub;
+            FedAt {
+                answer: FeedAnswer::Told { used, outcome, len },
+                hub: next,
+                place: after,
+            }
+        }
+        Written::ShortRoom => refused(hub, place, CallRefusal::ShortRoom),
+        Written::LongData => refused(hub, place, CallRefusal::ShortRoom),
     }
 }
 
@@ -108,33 +114,39 @@ fn fed_of(bytes: [u8; line::LIMIT], fed: FedAt) -> FedByValue
     }
 }
 
-// What was read is served, if it came to an outcome.
-fn serve_outcome(
-    hub: Hub,
-    table: &mut [u8],
-    room: &mut [u8],
-    line: u8,
-    outcome: FrameOutcome,
-    held: &[u8],
-) -> Served
-    requires { ⌜ (length (now table) ≡ tableSize) × (minRoom ≤ length (now room)) × (line < lineCount) × (length (now held) ≡ limit) × Within outcome ⌝ }
-    ensures { λ r. ⌜ Serves (serveIf system hub (now (table .entry)) line (told outcome (now (held .entry)))) (now (room .entry)) r (now (table .exit)) (now (room .exit)) ⌝ }
+// What is answered to what was read, if it came to an outcome.
+fn decide_outcome(hub: Hub, table: &[u8], line: u8, outcome: FrameOutcome, held: &[u8]) -> Decided
+    requires { ⌜ (line < lineCount) × (length (now held) ≡ limit) × Within outcome ⌝ }
+    ensures { λ r. ⌜ Decides (respondIf hub (now (table .entry)) line (told outcome (now (held .entry)))) (now (table .entry)) (dataIn outcome (now (held .entry))) r ⌝ }
 {
     match outcome {
-        FrameOutcome::Nothing => Served { hub: hub, len: 0 },
+        FrameOutcome::Nothing => Decided {
+            reply: Reply::Nothing,
+            hub: hub,
+        },
         FrameOutcome::Frame { command, len } => {
-            crate::serve::serve(
+            crate::decide::decide(
                 hub,
                 table,
-                room,
                 line,
                 command,
                 &held[frame::HEAD..frame::HEAD + len],
             )
         }
-        FrameOutcome::Refused(_) => {
-            let n = crate::replies::error(room, crate::serve::FRAME_ERROR);
-            Served { hub: hub, len: n }
+        FrameOutcome::Refused(_) => crate::decide::failure(hub, crate::decide::FRAME_ERROR),
+    }
+}
+
+// What the request of a frame stores in the table.
+fn store_outcome(table: &mut [u8], reply: Reply, outcome: FrameOutcome, held: &[u8])
+    requires { ⌜ (length (now held) ≡ limit) × Within outcome × Enough reply (dataIn outcome (now held)) ⌝ }
+    ensures { λ r. ⌜ now (table .exit) ≡ storedBy outcome reply (now (held .entry)) (now (table .entry)) ⌝ }
+{
+    match outcome {
+        FrameOutcome::Nothing => {}
+        FrameOutcome::Frame { command: _, len } => {
+            crate::effects::store(table, reply, &held[frame::HEAD..frame::HEAD + len])
         }
+        FrameOutcome::Refused(_) => {}
     }
 }

@@ -1,18 +1,19 @@
-// Bytes on a line: the call's refusals, the frame that they end, its request served and answered (document 01, "Feed takes a line, bytes and
+// Bytes on a line: the call's refusals, the frame that they end, its request answered and done (document 01, "Feed takes a line, bytes and
 // reply room", "The command directory", "What the commands do"). `call` and `call_in` promise the definition's call in every part (crate rules,
-// specs/Promises.antt: Feeds). It stands on the reader and writer of frames, the directory, the node table, the sessions and the hub's rules.
+// specs/Promises.antt: Feeds). What is answered is decided first, with nothing lent changed; then it is written, if there is room for it; then
+// table and record are changed. It stands on the reader of frames, the directory, the node table, the sessions, the replies and the hub's rules.
+mod decide;
+mod effects;
 mod feed;
-mod logins;
 mod passwords;
-mod replies;
-mod serve;
 
 pub use feed::call;
 pub use feed::call_in;
+use replies::Reply;
 use rules::Hub;
 
-// The hub that serving leaves, and the length of the reply at the room's front.
-struct Served {
+// What is answered, and the hub that it leaves.
+struct Decided {
+    reply: Reply,
     hub: Hub,
-    len: usize,
 }

@@ -31,14 +31,8 @@ pub(crate) fn enter(hub: Hub, line: u8, given: [u8; rules::PASSWORD]) -> Entered
             hub: hub,
         };
     }
-    let before = hub.logins;
-    let logins = crate::logins::with_login(before, line);
-    let slots = hub.slots;
-    let next = Hub {
-        password: password,
-        logins: logins,
-        slots: slots,
-    };
+    let mut next = hub;
+    next.logins[line as usize] = 1;
     Entered {
         status: CORRECT,
         hub: next,
@@ -56,13 +50,8 @@ pub(crate) fn change(hub: Hub, old: [u8; rules::PASSWORD], new: [u8; rules::PASS
             hub: hub,
         };
     }
-    let logins = hub.logins;
-    let slots = hub.slots;
-    let next = Hub {
-        password: new,
-        logins: logins,
-        slots: slots,
-    };
+    let mut next = hub;
+    next.password = new;
     Entered {
         status: CORRECT,
         hub: next,
@@ -73,13 +62,9 @@ pub(crate) fn change(hub: Hub, old: [u8; rules::PASSWORD], new: [u8; rules::PASS
 pub(crate) fn with_slots(hub: Hub, slots: [Slot; sessions::SLOTS]) -> Hub
     ensures { λ r. ⌜ r ≡ withSlots hub slots ⌝ }
 {
-    let password = hub.password;
-    let logins = hub.logins;
-    Hub {
-        password: password,
-        logins: logins,
-        slots: slots,
-    }
+    let mut next = hub;
+    next.slots = slots;
+    next
 }
 
 // A password in a request's data, from the place `at` on.

@@ -1,29 +1,30 @@
 -- What holds of each case of a choice holds of what is chosen.
 use Prim.Native.Nat.{ℕ}
 use mathlib.Core.Path.{_≡_}
-use mathlib.Core.List.{List, [], _∷_}
+use mathlib.Core.List.{List}
 use mathlib.Core.Bool.{true}
 use mathlib.Core.Option.{Option, none, some}
 use lib.ListN.{drop, getD}
 use lib.Dec.{eqb}
 use Rattle.nodes.specs.Cases.{either-by}
 use Rattle.nodes.specs.Table.{setVariation, setName, setOrderAndPlacement}
+use Rattle.replies.specs.Messages.{passwordEntered, passwordChanged, variationSet, nameSet, orderAndPlacementSet}
 use Rattle.rules.specs.declared.Hub.{Hub}
-use Rattle.rules.specs.Hub.{Reply, unknownCommand, failure, byVerdict, enter, changed, passwordEnter, reply, nodeReply, getNode, removeNodes, virginState, modeSend, request}
+use Rattle.rules.specs.Hub.{Response, unknownCommand, failure, byVerdict, enter, changed, passwordEnter, reply, nodeReply, getNode, removeNodes, virginState, modeSend, request}
 pub use Rattle.nodes.specs.Cases.{either}
 
-pub each-verdict : (P : Reply → Type 0) (v : Option ℕ) (f : ℕ → Reply) (x : Reply) → ((e : ℕ) → P (f e)) → P x → P (byVerdict v f x)
+pub each-verdict : (P : Response → Type 0) (v : Option ℕ) (f : ℕ → Response) (x : Response) → ((e : ℕ) → P (f e)) → P x → P (byVerdict v f x)
 each-verdict P (some e) f x p q = p e
 each-verdict P none f x p q = q
 
 -- the requests served, in the order of their definition, and one that is not served
-pub each-request : (P : Reply → Type 0) (h : Hub) (t : List ℕ) (l c : ℕ) (d : List ℕ)
-    → (eqb c passwordEnter ≡ true → P (reply (enter h l d .hub) t 0x3001 (enter h l d .status ∷ [])))
-    → P (reply (changed h d .hub) t 0x3003 (changed h d .status ∷ []))
+pub each-request : (P : Response → Type 0) (h : Hub) (t : List ℕ) (l c : ℕ) (d : List ℕ)
+    → (eqb c passwordEnter ≡ true → P (reply (enter h l d .hub) t (passwordEntered (enter h l d .status))))
+    → P (reply (changed h d .hub) t (passwordChanged (changed h d .status)))
     → P (getNode h t (getD d 0 0))
-    → P (nodeReply h 0x0207 (getD d 0 0) (setVariation t (getD d 0 0) (getD d 1 0)))
-    → P (nodeReply h 0x0209 (getD d 0 0) (setName t (getD d 0 0) (drop 1 d)))
-    → P (nodeReply h 0x020E (getD d 0 0) (setOrderAndPlacement t (getD d 0 0) (drop 1 d)))
+    → P (nodeReply h variationSet (getD d 0 0) (setVariation t (getD d 0 0) (getD d 1 0)))
+    → P (nodeReply h nameSet (getD d 0 0) (setName t (getD d 0 0) (drop 1 d)))
+    → P (nodeReply h orderAndPlacementSet (getD d 0 0) (setOrderAndPlacement t (getD d 0 0) (drop 1 d)))
     → P (removeNodes h t d)
     → P (virginState h t)
     → P (modeSend h t l d)

@@ -8,7 +8,8 @@ use Rattle.frame.specs.Reader.{emptied, outcomes, step, verdict, inner}
 use Rattle.frame.specs.Xor as xor
 use Rattle.directory.specs.Directory.{directory}
 use Rattle.directory.specs.Lookup as lookup
-use Rattle.rules.specs.Hub.{firstHub, serve}
+use Rattle.replies.specs.Messages.{bytesOf}
+use Rattle.rules.specs.Hub.{firstHub, respond, serve}
 
 -- Bytes, the outcomes that they give on a line between packets, and the replies to them before login.
 pub record Row : Type 0 where
@@ -56,5 +57,5 @@ tried t r =
     record { bytes = r .bytes; given = os; replies = map (λ (o : Outcome). serve firstHub t 0 o .reply) os }
 
 pub rows-hold : (t : List ℕ) → map (tried t) rows ≡ rows
-unfolding outcomes step verdict line.step line.close inner line.decoded judge xor.xorAll xor._⊕_ serve wire escape framed body lookup.verdict lookup.verdictOf lookup.find directory line.wrongEscape tooShort wrongProtocol wrongLength wrongCheck
+unfolding outcomes step verdict line.step line.close inner line.decoded judge xor.xorAll xor._⊕_ serve respond bytesOf wire escape framed body lookup.verdict lookup.verdictOf lookup.find directory line.wrongEscape tooShort wrongProtocol wrongLength wrongCheck
 rows-hold t = refl

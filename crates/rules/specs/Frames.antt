@@ -1,19 +1,18 @@
 -- What the hub writes are frames as document 01 has them sent: END, the escaped frame, END, one behind another.
-use Prim.Native.Nat.{ℕ, _/_, _%_, _≤_}
+use Prim.Native.Nat.{ℕ, _≤_}
 use mathlib.Core.Path.{_≡_, refl, sym, ap, ap₂, _∙_}
 use mathlib.Core.List.{List, [], _∷_, _++_, append-assoc, append-nil}
 use native.Mathlib.Omega.{arith}
-use mathlib.Core.Bool.{Bool, true, false, cond}
 use lib.ListN.{length, getD}
 use Rattle.frame.specs.Frame.{Outcome, frame, refused, framed, wire, maxData}
 use Rattle.frame.specs.JudgeLaws.{framed-accepted}
 use Rattle.frame.specs.Reader.{escape}
-use Rattle.nodes.specs.Table as table
-use Rattle.nodes.specs.TableLaws.{used-below, information-length}
+use Rattle.replies.specs.Messages.{Message, sessionFinished, commandOf, dataOf, wireOf, bytesOf}
+use Rattle.replies.specs.ReplyLaws.{Fit, aboutNode-fit}
 use Rattle.directory.specs.Lookup as directory
 use Rattle.feeds.specs.Sent.{Sent, enclosed, sent}
 use Rattle.rules.specs.declared.Hub.{Hub}
-use Rattle.rules.specs.Hub.{Reply, getNode, removeNodes, virginState, modeSend, request, mayAsk, serve, notice}
+use Rattle.rules.specs.Hub.{Response, removeNodes, virginState, modeSend, request, mayAsk, respond, serve, notice}
 use Rattle.rules.specs.Cases.{either, each-verdict, each-request}
 
 -- a frame of a command and no more than 250 data bytes, as a sender writes it: one END before it
@@ -58,36 +57,39 @@ both-frames v w x y = record {
   bytes = ap₂ _++_ (x .bytes) (y .bytes) ∙ sym (sent-append (x .frames) (y .frames));
 }
 
--- so is the reply to every outcome, on a table of the right length
-abbrev Replies : Reply → Type 0
-Replies r = Frames (r .reply)
+-- so are messages of no more than 250 data bytes each
+pub no-frames : Frames []
+unfolding sent
+no-frames = record { frames = []; ends = tt; bytes = refl }
 
-getNode-frames : (h : Hub) (t : List ℕ) (n : ℕ) → length t ≡ table.tableSize → Replies (getNode h t n)
-unfolding getNode
-getNode-frames h t n e = go (table.inUse t n) refl
-  where
-    go : (b : Bool) → table.inUse t n ≡ b
-        → Replies (cond b (record { hub = h; table = t; reply = wire 0x0201 (table.accepted ∷ n ∷ []) ++ wire 0x0210 (table.information t n) }) (record { hub = h; table = t; reply = wire 0x0201 (table.invalidNode ∷ n ∷ []) }))
-    go true u =
-        let k = information-length t n e (used-below t n u) in
-        both-frames (wire 0x0201 (table.accepted ∷ n ∷ [])) (wire 0x0210 (table.information t n)) (one-frame 0x0201 _ (omega arith)) (one-frame 0x0210 (table.information t n) (omega arith))
-    go false u = one-frame 0x0201 (table.invalidNode ∷ n ∷ []) (omega arith)
+said-frames : (ms : List Message) → Fit ms → Frames (bytesOf ms)
+unfolding bytesOf
+said-frames [] x = no-frames
+said-frames (m ∷ ms) x = both-frames (wireOf m) (bytesOf ms) (one-frame (commandOf m) (dataOf m) (x .0)) (said-frames ms (x .1))
 
-request-frames : (h : Hub) (t : List ℕ) (l c : ℕ) (d : List ℕ) → length t ≡ table.tableSize → Replies (request h t l c d)
+-- and all that is said of an outcome, whatever hub and table are
+abbrev Says : Response → Type 0
+Says r = Fit (r .says)
+
+request-says : (h : Hub) (t : List ℕ) (l c : ℕ) (d : List ℕ) → Says (request h t l c d)
 unfolding removeNodes virginState modeSend
-request-frames h t l c d e =
-    each-request Replies h t l c d (λ x. one-frame _ _ (omega arith)) (one-frame _ _ (omega arith)) (getNode-frames h t (getD d 0 0) e)
-    (one-frame _ _ (omega arith)) (one-frame _ _ (omega arith)) (one-frame _ _ (omega arith)) (one-frame _ _ (omega arith)) (one-frame _ _ (omega arith))
-    (one-frame _ _ (omega arith)) (one-frame _ _ (omega arith))
+request-says h t l c d =
+    each-request Says h t l c d (λ x. (omega arith, tt)) (omega arith, tt) (aboutNode-fit t (getD d 0 0)) (omega arith, tt) (omega arith, tt) (omega arith, tt)
+    (omega arith, tt) (omega arith, tt) (omega arith, tt) (omega arith, tt)
 
-pub serve-frames : (h : Hub) (t : List ℕ) (l : ℕ) (o : Outcome) → length t ≡ table.tableSize → Frames (serve h t l o .reply)
+respond-says : (h : Hub) (t : List ℕ) (l : ℕ) (o : Outcome) → Says (respond h t l o)
+unfolding respond
+respond-says h t l (refused n) = (omega arith, tt)
+respond-says h t l (frame c d) =
+    each-verdict Says (directory.verdict c (length d)) _ _ (λ e. (omega arith, tt))
+    (either Says (mayAsk (h .logins) l c) _ _ (request-says h t l c d) (omega arith, tt))
+
+-- so is the reply to every outcome
+pub serve-frames : (h : Hub) (t : List ℕ) (l : ℕ) (o : Outcome) → Frames (serve h t l o .reply)
 unfolding serve
-serve-frames h t l (refused n) e = one-frame 0 _ (omega arith)
-serve-frames h t l (frame c d) e =
-    each-verdict Replies (directory.verdict c (length d)) _ _ (λ e. one-frame 0 _ (omega arith))
-    (either Replies (mayAsk (h .logins) l c) _ _ (request-frames h t l c d e) (one-frame 0 _ (omega arith)))
+serve-frames h t l o = said-frames (respond h t l o .says) (respond-says h t l o)
 
 -- and what finish writes
 pub notice-frames : (x : ℕ) → Frames (notice x)
 unfolding notice
-notice-frames x = one-frame 0x0304 (x / 256 ∷ x % 256 ∷ []) (omega arith)
+notice-frames x = said-frames (sessionFinished x ∷ []) (omega arith, tt)

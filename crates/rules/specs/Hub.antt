@@ -1,20 +1,20 @@
 -- The hub (document 01, "The command directory", "What the commands do", host calls, "Numbers of refusal").
-use Prim.Native.Nat.{ℕ, _/_, _%_}
-use mathlib.Core.List.{List, [], _∷_, _++_}
+use Prim.Native.Nat.{ℕ}
+use mathlib.Core.List.{List, [], _∷_}
 use mathlib.Core.Bool.{Bool, true, false, cond, not, _||_}
 use mathlib.Core.Option.{Option, none, some}
 use lib.ListN.{length, take, drop, set, getD, replicate}
 use lib.Dec.{ltb, eqb}
 use Rattle.memory.specs.Octets.{same}
-use Rattle.frame.specs.Frame.{Outcome, frame, refused, wire}
-use Rattle.frame.specs.Reader.{State, emptied}
-use Rattle.frame.specs.Writer.{minRoom}
+use Rattle.frame.specs.Frame.{Outcome, frame, refused}
+use Rattle.frame.specs.Reader.{State, emptied, read}
 pub use Rattle.frame.specs.Writer.{shortRoom}
 use Rattle.nodes.specs.Table as table
 use Rattle.sessions.specs.Sessions as sessions
 use Rattle.sessions.specs.declared.Slot.{Slot}
 use Rattle.directory.specs.Lookup as directory
 pub use Rattle.directory.specs.Lookup.{unknownCommand, frameError}
+use Rattle.replies.specs.Messages.{Message, error, passwordEntered, passwordChanged, variationSet, nameSet, orderAndPlacementSet, nodesRemoved, virginStateSet, modeSendConfirmed, sessionFinished, bytesOf, aboutNode}
 use Rattle.feeds.specs.System.{Served, System}
 use Rattle.rules.specs.declared.Hub.{Hub}
 
@@ -52,25 +52,23 @@ refuseTable t o = refuseIf (not (eqb (length t) table.tableSize)) wrongTable o
 abbrev pub refuseLine : ℕ → Option ℕ → Option ℕ
 refuseLine l o = refuseIf (not (ltb l lineCount)) wrongLine o
 
--- what serving an outcome leaves and writes
-abbrev pub Reply : Type 0
-Reply = Served Hub (List ℕ)
+-- what the hub makes of an outcome: what it leaves, and what it says
+pub record Response : Type 0 where
+  pub hub : Hub
+  pub table : List ℕ
+  pub says : List Message
 
 -- ---- error frames
-
--- the error frame 0000 with one byte
-abbrev pub errorReply : ℕ → List ℕ
-errorReply e = wire 0x0000 (e ∷ [])
 
 abbrev pub notLoggedIn : ℕ
 notLoggedIn = 12
 
--- none of these changes anything
-abbrev pub failure : Hub → List ℕ → ℕ → Reply
-failure h t e = record { hub = h; table = t; reply = errorReply e }
+-- the error frame 0000 with one byte; none of these changes anything
+abbrev pub failure : Hub → List ℕ → ℕ → Response
+failure h t e = record { hub = h; table = t; says = error e ∷ [] }
 
 -- the failure that the directory gives an error for, or else what follows
-abbrev pub byVerdict : Option ℕ → (ℕ → Reply) → Reply → Reply
+abbrev pub byVerdict : Option ℕ → (ℕ → Response) → Response → Response
 byVerdict (some e) f x = f e
 byVerdict none f x = x
 
@@ -114,45 +112,42 @@ passwordEnter = 0x3000
 abbrev pub withSlots : Hub → List Slot → Hub
 withSlots h ss = record { password = h .password; logins = h .logins; slots = ss }
 
--- a reply of one frame
-abbrev pub reply : Hub → List ℕ → ℕ → List ℕ → Reply
-reply h t c d = record { hub = h; table = t; reply = wire c d }
+-- one frame is said
+abbrev pub reply : Hub → List ℕ → Message → Response
+reply h t m = record { hub = h; table = t; says = m ∷ [] }
 
--- a confirm with status and node, as the node was sent
-abbrev pub nodeReply : Hub → ℕ → ℕ → table.Result → Reply
-nodeReply h c n r = reply h (r .table) c (r .status ∷ n ∷ [])
+-- a node set command's confirm has its status and the node as it was sent
+abbrev pub nodeReply : Hub → (ℕ → ℕ → Message) → ℕ → table.Result → Response
+nodeReply h confirm n r = reply h (r .table) (confirm (r .status) n)
 
--- 0201: status 2 for a node above 199 or not in use; otherwise status 0, and then frame 0210
-unfoldable pub getNode : Hub → List ℕ → ℕ → Reply
-getNode h t n =
-    cond (table.inUse t n)
-    (record { hub = h; table = t; reply = wire 0x0201 (table.accepted ∷ n ∷ []) ++ wire 0x0210 (table.information t n) })
-    (reply h t 0x0201 (table.invalidNode ∷ n ∷ []))
+abbrev pub getNode : Hub → List ℕ → ℕ → Response
+getNode h t n = record { hub = h; table = t; says = aboutNode t n }
 
 -- SceneDeleted is 0
-unfoldable pub removeNodes : Hub → List ℕ → List ℕ → Reply
-removeNodes h t d = reply (withSlots h (sessions.closeRemoved t d (h .slots))) (table.remove d t) 0x0107 (0 ∷ [])
+unfoldable pub removeNodes : Hub → List ℕ → List ℕ → Response
+removeNodes h t d = reply (withSlots h (sessions.closeRemoved t d (h .slots))) (table.remove d t) (nodesRemoved 0)
 
 -- virgin state zeroes the table and closes all sessions; logins and password stay
-unfoldable pub virginState : Hub → List ℕ → Reply
-virginState h t = reply (withSlots h (sessions.closeAll (h .slots))) (table.emptied t) 0x0109 []
+unfoldable pub virginState : Hub → List ℕ → Response
+virginState h t = reply (withSlots h (sessions.closeAll (h .slots))) (table.emptied t) virginStateSet
 
--- 0321: session, status
-unfoldable pub modeSend : Hub → List ℕ → ℕ → List ℕ → Reply
+-- the confirm has the session as it was sent
+unfoldable pub modeSend : Hub → List ℕ → ℕ → List ℕ → Response
 modeSend h t l d =
-    let r = sessions.modeSend (h .slots) t l (sessions.modeSendOf d) in
-    reply (withSlots h (r .slots)) t 0x0321 (getD d 0 0 ∷ getD d 1 0 ∷ r .status ∷ [])
+    let q = sessions.modeSendOf d in
+    let r = sessions.modeSend (h .slots) t l q in
+    reply (withSlots h (r .slots)) t (modeSendConfirmed (q .session) (r .status))
 
 -- the requests served, by their numbers; known but not served is error 1
-unfoldable pub request : Hub → List ℕ → ℕ → ℕ → List ℕ → Reply
+unfoldable pub request : Hub → List ℕ → ℕ → ℕ → List ℕ → Response
 request h t l c d =
     let n = getD d 0 0 in
-    cond (eqb c passwordEnter) (let r = enter h l d in reply (r .hub) t 0x3001 (r .status ∷ []))
-    (cond (eqb c 0x3002) (let r = changed h d in reply (r .hub) t 0x3003 (r .status ∷ []))
+    cond (eqb c passwordEnter) (let r = enter h l d in reply (r .hub) t (passwordEntered (r .status)))
+    (cond (eqb c 0x3002) (let r = changed h d in reply (r .hub) t (passwordChanged (r .status)))
     (cond (eqb c 0x0200) (getNode h t n)
-    (cond (eqb c 0x0206) (nodeReply h 0x0207 n (table.setVariation t n (getD d 1 0)))
-    (cond (eqb c 0x0208) (nodeReply h 0x0209 n (table.setName t n (drop 1 d)))
-    (cond (eqb c 0x020D) (nodeReply h 0x020E n (table.setOrderAndPlacement t n (drop 1 d)))
+    (cond (eqb c 0x0206) (nodeReply h variationSet n (table.setVariation t n (getD d 1 0)))
+    (cond (eqb c 0x0208) (nodeReply h nameSet n (table.setName t n (drop 1 d)))
+    (cond (eqb c 0x020D) (nodeReply h orderAndPlacementSet n (table.setOrderAndPlacement t n (drop 1 d)))
     (cond (eqb c 0x0106) (removeNodes h t d)
     (cond (eqb c 0x0108) (virginState h t)
     (cond (eqb c 0x0320) (modeSend h t l d)
@@ -173,11 +168,18 @@ mayAsk logins l c = isListed logins l || eqb c passwordEnter
 
 -- judged in this order: packet refused, 2; command unknown, 1; data length outside the directory's range, 2; not logged in and not
 -- password enter, 12; known but not served, 1
-unfoldable pub serve : Hub → List ℕ → ℕ → Outcome → Reply
-serve h t l (refused n) = failure h t frameError
-serve h t l (frame c d) =
+unfoldable pub respond : Hub → List ℕ → ℕ → Outcome → Response
+respond h t l (refused n) = failure h t frameError
+respond h t l (frame c d) =
     byVerdict (directory.verdict c (length d)) (failure h t)
     (cond (mayAsk (h .logins) l c) (request h t l c d) (failure h t notLoggedIn))
+
+-- what serving an outcome leaves and writes: what is said goes to the line as bytes
+abbrev pub Reply : Type 0
+Reply = Served Hub (List ℕ)
+
+unfoldable pub serve : Hub → List ℕ → ℕ → Outcome → Reply
+serve h t l o = record { hub = respond h t l o .hub; table = respond h t l o .table; reply = bytesOf (respond h t l o .says) }
 
 -- ---- host calls
 
@@ -244,27 +246,38 @@ pub data Finish : Type 0 where
   finishedOn : ℕ → ℕ → Finish
 
 unfoldable pub notice : ℕ → List ℕ
-notice x = wire 0x0304 (x / 256 ∷ x % 256 ∷ [])
+notice x = bytesOf (sessionFinished x ∷ [])
 
 pub record Finished : Type 0 where
   pub answer : Finish
   pub hub : Hub
   pub reply : List ℕ
 
-abbrev pub finishBy : Bool → Option sessions.Finished → Hub → ℕ → Finished
-finishBy true o h x = record { answer = refusedFinish shortRoom; hub = h; reply = [] }
-finishBy false none h x = record { answer = refusedFinish sessions.notOpen; hub = h; reply = [] }
-finishBy false (some f) h x = record { answer = finishedOn (f .line) (length (notice x)); hub = withSlots h (f .slots); reply = notice x }
+-- a number that is not open (13), then a notice longer than the room (9)
+abbrev pub finishBy : Option sessions.Finished → Bool → Hub → ℕ → Finished
+finishBy none long h x = record { answer = refusedFinish sessions.notOpen; hub = h; reply = [] }
+finishBy (some f) true h x = record { answer = refusedFinish shortRoom; hub = h; reply = [] }
+finishBy (some f) false h x = record { answer = finishedOn (f .line) (length (notice x)); hub = withSlots h (f .slots); reply = notice x }
 
 abbrev pub finish : Hub → ℕ → ℕ → Finished
-finish h x room = finishBy (ltb room minRoom) (sessions.finish (h .slots) x) h x
+finish h x room = finishBy (sessions.finish (h .slots) x) (ltb room (length (notice x))) h x
 
 -- ---- feed
 
--- when a feed is refused: the table's length, the line, the room
-abbrev pub feedRefusal : List ℕ → ℕ → ℕ → Option ℕ
-feedRefusal t l room = refuseTable t (refuseLine l (refuseIf (ltb room minRoom) shortRoom none))
+-- what the hub makes of a feed: nothing where its bytes come to no outcome
+abbrev pub respondIf : Hub → List ℕ → ℕ → Option Outcome → Response
+respondIf h t l none = record { hub = h; table = t; says = [] }
+respondIf h t l (some o) = respond h t l o
+
+-- what the feed writes
+abbrev pub written : Hub → List ℕ → ℕ → Option Outcome → List ℕ
+written h t l o = bytesOf (respondIf h t l o .says)
+
+-- when a feed is refused: the table's length, the line, and last what it would write, if that is longer than the room
+abbrev pub feedRefusal : Hub → List ℕ → State → ℕ → List ℕ → ℕ → Option ℕ
+feedRefusal h t s l bytes room =
+    refuseTable t (refuseLine l (refuseIf (ltb room (length (written h t l (read s bytes .outcome)))) shortRoom none))
 
 -- this hub, as a system of feeds
 abbrev pub hub : System
-hub = record { Hub = Hub; Table = List ℕ; serve = serve; refusal = λ h t s l bytes room. feedRefusal t l room }
+hub = record { Hub = Hub; Table = List ℕ; serve = serve; refusal = feedRefusal }

@@ -9,6 +9,4 @@ pub mod Examples
 pub mod Replies
 pub mod Answers
 pub mod PromiseLaws
-pub mod Room
-pub mod RoomLaws
 pub mod CallExamples

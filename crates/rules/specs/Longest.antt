@@ -1,5 +1,5 @@
 -- The longest reply has 212 bytes on the wire: 10 of frame 0201, and 202 of frame 0210. No hub, table, line or outcome gives a longer one.
-use Prim.Native.Nat.{ℕ, _+_, _*_, _/_, _%_, _≤_}
+use Prim.Native.Nat.{ℕ, _+_, _*_, _≤_}
 use mathlib.Core.Path.{_≡_, refl, subst}
 use mathlib.Core.List.{List, [], _∷_, _++_}
 use mathlib.Core.Bool.{Bool, true, false}
@@ -12,7 +12,7 @@ use Rattle.frame.specs.Line as line
 use Rattle.frame.specs.Line.{escape-append, escape-short, escape-plain}
 use Rattle.frame.specs.Frame.{Outcome, frame, refused, headOf, escape, body, framed, wire, judge}
 use Rattle.frame.specs.Reader.{State, emptied, read, onward, scan, step, verdict, inner}
-use Rattle.frame.specs.Writer.{minRoom, check}
+use Rattle.frame.specs.Writer.{check}
 use Rattle.frame.specs.Xor.{_⊕_, xorAll}
 use Rattle.frame.specs.XorLaws.{xorAll-append, ⊕-zero}
 use Rattle.frame.specs.WireLaws.{wire-length, wire-short}
@@ -22,10 +22,12 @@ use Rattle.nodes.specs.Table.{fieldOf, information, informationSize}
 use Rattle.sessions.specs.Sessions as sessions
 use Rattle.directory.specs.Directory.{directory}
 use Rattle.directory.specs.Lookup as lookup
-use Rattle.feeds.specs.System.{told, serveIf, settled, decided, call}
+use Rattle.replies.specs.Messages.{Message, informationConfirmed, sessionFinished, commandOf, dataOf, wireOf, bytesOf, aboutNode}
+use Rattle.feeds.specs.System.{refused as refusedFeed, told, serveIf, settled, decided, call}
 use Rattle.rules.specs.declared.Hub.{Hub}
-use Rattle.rules.specs.Hub.{passwordSize, Reply, getNode, removeNodes, virginState, modeSend, request, mayAsk, serve, finishedOn, notice, finishBy, finish, feedRefusal, hub}
+use Rattle.rules.specs.Hub.{passwordSize, Response, removeNodes, virginState, modeSend, request, mayAsk, respond, serve, finishedOn, notice, finishBy, finish, written, feedRefusal, hub}
 use Rattle.rules.specs.Cases.{either, each-verdict, each-request}
+use Rattle.rules.specs.Refusals.{not-refused}
 
 -- ---- frame 0201: node and check byte are not both doubled
 
@@ -98,42 +100,59 @@ notification-short t n = go (doubled (toldBytes t n)) (leb 71 (length (toldBytes
 
 -- ---- each reply
 
-abbrev Short : Reply → Type 0
-Short r = length (r .reply) ≤ 212
+abbrev Short : Response → Type 0
+Short r = length (bytesOf (r .says)) ≤ 212
 
-getNode-short : (h : Hub) (t : List ℕ) (n : ℕ) → Short (getNode h t n)
-unfolding getNode
-getNode-short h t n =
-    either Short (table.inUse t n) _ _
-    (omega (arith, length-append (wire 0x0201 (table.accepted ∷ n ∷ [])) (wire 0x0210 (information t n)), confirm-short n, notification-short t n))
-    (omega (arith, wire-short 0x0201 (table.invalidNode ∷ n ∷ [])))
+-- one frame with at most three data bytes
+frame-short : (m : Message) → length (dataOf m) ≤ 3 → length (bytesOf (m ∷ [])) ≤ 212
+unfolding bytesOf
+frame-short m h = omega (arith, length-append (wireOf m) [], wire-short (commandOf m) (dataOf m))
 
--- all other replies are one frame with at most three data bytes
-frame-short : (c : ℕ) (d : List ℕ) → length d ≤ 3 → length (wire c d) ≤ 212
-frame-short c d h = omega (arith, wire-short c d)
+about-short : (t : List ℕ) (n : ℕ) → length (bytesOf (aboutNode t n)) ≤ 212
+unfolding aboutNode bytesOf information
+about-short t n =
+    either (λ (ms : List Message). length (bytesOf ms) ≤ 212) (table.isTold t n) _ _
+    (simp length-append (omega (arith, confirm-short n, notification-short t n)))
+    (frame-short (informationConfirmed table.invalidNode n) (omega arith))
 
+-- all other replies are such a frame
 request-short : (h : Hub) (t : List ℕ) (l c : ℕ) (d : List ℕ) → Short (request h t l c d)
 unfolding removeNodes virginState modeSend
 request-short h t l c d =
-    each-request Short h t l c d (λ e. frame-short _ _ (omega arith)) (frame-short _ _ (omega arith)) (getNode-short h t (getD d 0 0))
-    (frame-short _ _ (omega arith)) (frame-short _ _ (omega arith)) (frame-short _ _ (omega arith)) (frame-short _ _ (omega arith))
-    (frame-short _ _ (omega arith)) (frame-short _ _ (omega arith)) (frame-short _ _ (omega arith))
+    each-request Short h t l c d (λ e. frame-short _ (omega arith)) (frame-short _ (omega arith)) (about-short t (getD d 0 0))
+    (frame-short _ (omega arith)) (frame-short _ (omega arith)) (frame-short _ (omega arith)) (frame-short _ (omega arith))
+    (frame-short _ (omega arith)) (frame-short _ (omega arith)) (frame-short _ (omega arith))
 
 -- whatever is served
 pub longest : (h : Hub) (t : List ℕ) (l : ℕ) (o : Outcome) → length (serve h t l o .reply) ≤ 212
-unfolding serve
-longest h t l (refused n) = frame-short _ _ (omega arith)
+unfolding serve respond
+longest h t l (refused n) = frame-short _ (omega arith)
 longest h t l (frame c d) =
-    each-verdict Short (lookup.verdict c (length d)) _ _ (λ e. frame-short _ _ (omega arith))
-    (either Short (mayAsk (h .logins) l c) _ _ (request-short h t l c d) (frame-short _ _ (omega arith)))
+    each-verdict Short (lookup.verdict c (length d)) _ _ (λ e. frame-short _ (omega arith))
+    (either Short (mayAsk (h .logins) l c) _ _ (request-short h t l c d) (frame-short _ (omega arith)))
 
 -- ---- the calls that write
+
+-- the longest reply, and room in which every reply fits
+abbrev pub longestReply : ℕ
+longestReply = 212
+
+-- all that a feed would write
+pub written-longest : (h : Hub) (t : List ℕ) (l : ℕ) (o : Option Outcome) → length (written h t l o) ≤ 212
+unfolding bytesOf serve
+written-longest h t l none = omega arith
+written-longest h t l (some o) = longest h t l o
+
+-- so no room of that length or more is refused, the new serial part's 300 bytes among them
+pub room-enough : (h : Hub) (t : List ℕ) (s : State) (l : ℕ) (bytes : List ℕ) (room : ℕ) → length t ≡ table.tableSize → l ≤ 3 → longestReply ≤ room
+    → feedRefusal h t s l bytes room ≡ none
+room-enough h t s l bytes room e k r = not-refused h t s l bytes room e k (omega (arith, written-longest h t l (read s bytes .outcome)))
 
 -- the length that a feed tells
 pub feed-longest : (h : Hub) (t : List ℕ) (s : State) (l : ℕ) (bytes : List ℕ) (room used : ℕ) (o : Option Outcome) (n : ℕ)
     → call hub h t s l bytes room .result .answer ≡ told used o n → n ≤ 212
 unfolding call decided settled serveIf
-feed-longest h t s l bytes room used o n e = go (feedRefusal t l room) (read s bytes .outcome) e
+feed-longest h t s l bytes room used o n e = go (feedRefusal h t s l bytes room) (read s bytes .outcome) e
   where
     go : (r : Option ℕ) (p : Option Outcome) → decided hub h t l s (record { after = read s bytes .after; used = read s bytes .used; outcome = p }) r .result .answer ≡ told used o n → n ≤ 212
     go (some k) p x = let z : _≡_ {A = ℕ} 0 1 = cc in absurd (omega arith)
@@ -143,12 +162,12 @@ feed-longest h t s l bytes room used o n e = go (feedRefusal t l room) (read s b
 -- and finish
 pub finish-longest : (h : Hub) (x room l n : ℕ) → finish h x room .answer ≡ finishedOn l n → n ≤ 212
 unfolding notice
-finish-longest h x room l n e = go (ltb room minRoom) (sessions.finish (h .slots) x) e
+finish-longest h x room l n e = go (sessions.finish (h .slots) x) (ltb room (length (notice x))) e
   where
-    go : (t : Bool) (o : Option sessions.Finished) → finishBy t o h x .answer ≡ finishedOn l n → n ≤ 212
-    go true o y = let z : _≡_ {A = ℕ} 0 1 = cc in absurd (omega arith)
-    go false none y = let z : _≡_ {A = ℕ} 0 1 = cc in absurd (omega arith)
-    go false (some f) y = let z : n ≡ length (notice x) = cc in omega (arith, frame-short 0x0304 (x / 256 ∷ x % 256 ∷ []) (omega arith))
+    go : (o : Option sessions.Finished) (t : Bool) → finishBy o t h x .answer ≡ finishedOn l n → n ≤ 212
+    go none t y = let z : _≡_ {A = ℕ} 0 1 = cc in absurd (omega arith)
+    go (some f) true y = let z : _≡_ {A = ℕ} 0 1 = cc in absurd (omega arith)
+    go (some f) false y = let z : n ≡ length (notice x) = cc in omega (arith, frame-short (sessionFinished x) (omega arith))
 
 -- ---- 212 bytes are sent
 
@@ -159,6 +178,14 @@ asking = record { password = replicate passwordSize 0; logins = 1 ∷ replicate 
 abbrev allEnds : List ℕ
 allEnds = replicate (0xC0 * table.recordSize) 0 ++ (1 ∷ replicate 71 0xC0) ++ replicate (7 * table.recordSize) 0
 
-pub longest-met : call hub asking allEnds emptied 0 (0xC0 ∷ 0x00 ∷ 0x04 ∷ 0x02 ∷ 0x00 ∷ 0xDB ∷ 0xDC ∷ 0xC6 ∷ 0xC0 ∷ []) minRoom .result .answer ≡ told 9 (some (frame 0x0200 (0xC0 ∷ []))) 212
-unfolding call decided settled serveIf scan onward step verdict line.step line.close inner line.decoded judge serve request getNode table.inUse information wire escape framed body xorAll _⊕_ lookup.verdict lookup.verdictOf lookup.find directory
+-- with room for them, and with a byte less refused
+abbrev asked : List ℕ
+asked = 0xC0 ∷ 0x00 ∷ 0x04 ∷ 0x02 ∷ 0x00 ∷ 0xDB ∷ 0xDC ∷ 0xC6 ∷ 0xC0 ∷ []
+
+pub longest-met : call hub asking allEnds emptied 0 asked 212 .result .answer ≡ told 9 (some (frame 0x0200 (0xC0 ∷ []))) 212
+unfolding call decided settled serveIf scan onward step verdict line.step line.close inner line.decoded judge serve respond request bytesOf aboutNode table.inUse wire escape framed body xorAll _⊕_ lookup.verdict lookup.verdictOf lookup.find directory
 longest-met = refl
+
+pub longest-refused : call hub asking allEnds emptied 0 asked 211 .result .answer ≡ refusedFeed 9
+unfolding call decided settled serveIf scan onward step verdict line.step line.close inner line.decoded judge serve respond request bytesOf aboutNode table.inUse wire escape framed body xorAll _⊕_ lookup.verdict lookup.verdictOf lookup.find directory
+longest-refused = refl

@@ -7,18 +7,20 @@ use mathlib.Core.Bool.{Bool, true, false}
 use native.Mathlib.Omega.{arith}
 use Rattle.frame.specs.Frame.{refused}
 use Rattle.line.specs.declared.Reading.{Reading}
-use Rattle.frame.specs.Reader.{State, emptied, taken}
+use Rattle.frame.specs.Reader.{State, emptied, read, taken}
 use lib.Dec.{ltb}
 use lib.ListN.{length, drop, getD, set, replicate}
 use borrow.Author.Tests.{eq-eqb, ne-eqb, lt-ltb, le-ltb}
-use Rattle.frame.specs.Writer.{minRoom}
 use Rattle.nodes.specs.Table.{tableSize, nodeCount, inUse, enrolled}
 use Rattle.nodes.specs.TableLaws.{used-below}
 use Rattle.sessions.specs.Sessions as sessions
 use Rattle.sessions.specs.Search.{any, first}
 use Rattle.sessions.specs.Sessions.{slotCount, closedSlot, isNumbered}
+use Rattle.feeds.specs.System.{refused as refusedFeed, Called, call}
+use Rattle.feeds.specs.CallLaws.{call-refused, answer-refused}
+use Rattle.replies.specs.Messages.{error, bytesOf}
 use Rattle.rules.specs.declared.Hub.{Hub}
-use Rattle.rules.specs.Hub.{errorReply, frameError, serve, startRefusal, startBy, start, enrolRefusal, enrolBy, enrol, closeRefusal, closeBy, Closed, closedLine, close, Finish, refusedFinish, finishedOn, Finished, finishBy, finish, notice, withSlots, lineCount, passwordSize, feedRefusal}
+use Rattle.rules.specs.Hub.{frameError, respond, serve, startRefusal, startBy, start, enrolRefusal, enrolBy, enrol, closeRefusal, closeBy, Closed, closedLine, close, Finish, refusedFinish, finishedOn, Finished, finishBy, finish, notice, withSlots, lineCount, passwordSize, written, feedRefusal, hub}
 use Rattle.rules.specs.declared.CallAnswer.{CallAnswer}
 use Rattle.rules.specs.declared.FinishAnswer.{FinishAnswer}
 use Rattle.rules.specs.Answers.{refusalOf, finishOf}
@@ -50,12 +52,12 @@ close-refused h s l n e = go (closeRefusal l) e
 
 -- finish gives back the hub, and writes nothing
 pub finish-refused : (h : Hub) (x room n : ℕ) → finish h x room .answer ≡ refusedFinish n → finish h x room ≡ record { answer = refusedFinish n; hub = h; reply = [] }
-finish-refused h x room n e = go (ltb room minRoom) (sessions.finish (h .slots) x) e
+finish-refused h x room n e = go (sessions.finish (h .slots) x) (ltb room (length (notice x))) e
   where
-    go : (b : Bool) (o : Option sessions.Finished) → finishBy b o h x .answer ≡ refusedFinish n → finishBy b o h x ≡ record { answer = refusedFinish n; hub = h; reply = [] }
-    go true o e = ap (λ (a : Finish). record { answer = a; hub = h; reply = [] }) e
-    go false none e = ap (λ (a : Finish). record { answer = a; hub = h; reply = [] }) e
-    go false (some f) e = let z : _≡_ {A = ℕ} 0 1 = cc in absurd (omega arith)
+    go : (o : Option sessions.Finished) (b : Bool) → finishBy o b h x .answer ≡ refusedFinish n → finishBy o b h x ≡ record { answer = refusedFinish n; hub = h; reply = [] }
+    go none b e = ap (λ (a : Finish). record { answer = a; hub = h; reply = [] }) e
+    go (some f) true e = ap (λ (a : Finish). record { answer = a; hub = h; reply = [] }) e
+    go (some f) false e = let z : _≡_ {A = ℕ} 0 1 = cc in absurd (omega arith)
 
 -- so does every close and finish that keeps its promise: hub, record and room are as they were lent
 pub close-kept : (h : Hub) (s : Reading) (l : ℕ) (a : CallAnswer) (h′ : Hub) (e : Reading) (n : ℕ) → Closes h s l a h′ e → refusalOf a ≡ some n → (h′ ≡ h) × (e ≡ s)
@@ -67,9 +69,15 @@ finish-kept h y space a h′ left n x e =
     (x .hub ∙ ap (λ (c : Finished). c .hub) f, x .room ∙ ap (λ (c : Finished). c .reply ++ drop (length (c .reply)) space) f)
 
 -- a refused packet brings the error frame with byte 2, and leaves hub and table
-pub serve-refused : (h : Hub) (t : List ℕ) (l n : ℕ) → serve h t l (refused n) ≡ record { hub = h; table = t; reply = errorReply frameError }
-unfolding serve
+pub serve-refused : (h : Hub) (t : List ℕ) (l n : ℕ) → serve h t l (refused n) ≡ record { hub = h; table = t; reply = bytesOf (error frameError ∷ []) }
+unfolding serve respond
 serve-refused h t l n = refl
+
+-- a refused feed is as if it had not been: the same bytes, or others, with another room come to what they would have come to without it
+pub feed-again : (h : Hub) (t : List ℕ) (s : State) (l : ℕ) (bytes : List ℕ) (room n : ℕ) → let c = call hub h t s l bytes room in
+    c .result .answer ≡ refusedFeed n → (k : ℕ) (other : List ℕ) (more : ℕ) → call hub (c .hub) (c .table) (c .state) k other more ≡ call hub h t s k other more
+feed-again h t s l bytes room n e k other more =
+    ap (λ (c : Called hub). call hub (c .hub) (c .table) (c .state) k other more) (call-refused hub h t s l bytes room n (answer-refused hub h t s l bytes room n e))
 
 -- ---- when a call is refused, in the order of the numbers
 
@@ -104,28 +112,36 @@ close-line h s l e = rw (le-ltb l lineCount (omega arith))
 pub close-done : (h : Hub) (s : State) (l : ℕ) → l ≤ 3 → close h s l ≡ record { refusal = none; hub = closedLine h l; state = emptied }
 close-done h s l e = rw (lt-ltb l lineCount (omega arith))
 
--- finish: room below 512 (9), a number that is not open (13); otherwise it closes the lowest slot that has it, tells its line and writes frame 0304
-pub finish-room : (h : Hub) (x room : ℕ) → room < 512 → finish h x room .answer ≡ refusedFinish 9
-finish-room h x room e = rw (lt-ltb room minRoom e)
-
-pub finish-not-open : (h : Hub) (x room : ℕ) → 512 ≤ room → any (isNumbered x) (h .slots) ≡ false → finish h x room .answer ≡ refusedFinish 13
+-- finish: a number that is not open (13), then a notice longer than the room (9); otherwise it closes the lowest slot that has the number,
+-- tells its line and writes frame 0304
+pub finish-not-open : (h : Hub) (x room : ℕ) → any (isNumbered x) (h .slots) ≡ false → finish h x room .answer ≡ refusedFinish 13
 unfolding sessions.finish
-finish-not-open h x room e n = rw (le-ltb room minRoom e, n)
+finish-not-open h x room n = rw n
 
-pub finish-done : (h : Hub) (x room : ℕ) → 512 ≤ room → any (isNumbered x) (h .slots) ≡ true → let k = first (isNumbered x) (h .slots) in
+pub finish-room : (h : Hub) (x room : ℕ) → any (isNumbered x) (h .slots) ≡ true → room < length (notice x) → finish h x room .answer ≡ refusedFinish 9
+unfolding sessions.finish
+finish-room h x room n e = rw (n, lt-ltb room (length (notice x)) e)
+
+pub finish-done : (h : Hub) (x room : ℕ) → any (isNumbered x) (h .slots) ≡ true → length (notice x) ≤ room → let k = first (isNumbered x) (h .slots) in
     finish h x room ≡ record { answer = finishedOn (getD (h .slots) k closedSlot .line) (length (notice x)); hub = withSlots h (set (h .slots) k closedSlot); reply = notice x }
 unfolding sessions.finish
-finish-done h x room e n = rw (le-ltb room minRoom e, n)
+finish-done h x room n e = rw (n, le-ltb room (length (notice x)) e)
 
--- feed: a table of another length (7), a line above 3 (8), room below 512 (9)
-pub refused-table : (t : List ℕ) (l room : ℕ) → (length t ≡ tableSize → ⊥) → feedRefusal t l room ≡ some 7
-refused-table t l room e = rw (ne-eqb (length t) tableSize e)
+-- feed: a table of another length (7), a line above 3 (8), and last what it would write longer than the room (9)
+module _ (h : Hub) (t : List ℕ) (s : State) (l : ℕ) (bytes : List ℕ) (room : ℕ) where
+  pub refused-table : (length t ≡ tableSize → ⊥) → feedRefusal h t s l bytes room ≡ some 7
+  refused-table e = rw (ne-eqb (length t) tableSize e)
 
-pub refused-line : (t : List ℕ) (l room : ℕ) → length t ≡ tableSize → 3 < l → feedRefusal t l room ≡ some 8
-refused-line t l room e h = rw (eq-eqb (length t) tableSize e, le-ltb l lineCount (omega arith))
+  pub refused-line : length t ≡ tableSize → 3 < l → feedRefusal h t s l bytes room ≡ some 8
+  refused-line e k = rw (eq-eqb (length t) tableSize e, le-ltb l lineCount (omega arith))
 
-pub refused-room : (t : List ℕ) (l room : ℕ) → length t ≡ tableSize → l ≤ 3 → room < 512 → feedRefusal t l room ≡ some 9
-refused-room t l room e h k = rw (eq-eqb (length t) tableSize e, lt-ltb l lineCount (omega arith), lt-ltb room minRoom k)
+  pub refused-room : length t ≡ tableSize → l ≤ 3 → room < length (written h t l (read s bytes .outcome)) → feedRefusal h t s l bytes room ≡ some 9
+  refused-room e k w = rw (eq-eqb (length t) tableSize e, lt-ltb l lineCount (omega arith), lt-ltb room (length (written h t l (read s bytes .outcome))) w)
 
-pub not-refused : (t : List ℕ) (l room : ℕ) → length t ≡ tableSize → l ≤ 3 → 512 ≤ room → feedRefusal t l room ≡ none
-not-refused t l room e h k = rw (eq-eqb (length t) tableSize e, lt-ltb l lineCount (omega arith), le-ltb room minRoom k)
+  pub not-refused : length t ≡ tableSize → l ≤ 3 → length (written h t l (read s bytes .outcome)) ≤ room → feedRefusal h t s l bytes room ≡ none
+  not-refused e k w = rw (eq-eqb (length t) tableSize e, lt-ltb l lineCount (omega arith), le-ltb room (length (written h t l (read s bytes .outcome))) w)
+
+  -- a feed that would write nothing is not refused for its room, whatever that is
+  pub nothing-written : length t ≡ tableSize → l ≤ 3 → read s bytes .outcome ≡ none → feedRefusal h t s l bytes room ≡ none
+  unfolding bytesOf
+  nothing-written e k o = not-refused e k (rw o (omega arith))

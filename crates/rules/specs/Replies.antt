@@ -5,8 +5,9 @@ use mathlib.Core.List.{List, [], _∷_, _++_, map}
 use mathlib.Core.Bool.{Bool, true, false}
 use mathlib.Core.Option.{Option, none, some}
 use lib.ListN.{length, set, replicate}
-use Rattle.frame.specs.Frame.{Outcome, frame, refused, wire, escape, framed, body}
-use Rattle.frame.specs.Reader.{plain, emptied}
+use Rattle.frame.specs.Line as line
+use Rattle.frame.specs.Frame.{Outcome, frame, refused, wire, escape, framed, body, judge}
+use Rattle.frame.specs.Reader.{plain, emptied, onward, scan, step, verdict, inner}
 use Rattle.frame.specs.Xor as xor
 use Rattle.directory.specs.Directory.{directory}
 use Rattle.directory.specs.Lookup as lookup
@@ -16,10 +17,11 @@ use Rattle.sessions.specs.Search as search
 use Rattle.sessions.specs.Sessions as sessions
 use Rattle.sessions.specs.Sessions.{slotCount, closedSlot}
 use Rattle.sessions.specs.declared.Slot.{Slot}
+use Rattle.replies.specs.Messages.{variationSet, modeSendConfirmed, bytesOf, aboutNode}
 use Rattle.rules.specs.declared.Hub.{Hub}
 use Rattle.rules.specs.Hub as rules
 use Rattle.memory.specs.Octets.{same}
-use Rattle.rules.specs.Hub.{Reply, firstHub, serve, request, enter, start, enrol, Closed, close, finish}
+use Rattle.rules.specs.Hub.{Reply, firstHub, respond, serve, request, enter, start, enrol, Closed, close, finish}
 
 -- ---- hubs and tables
 
@@ -55,6 +57,10 @@ moving = opened (session (marks 0 0x08))
 -- session 0103 of line 1 with node 2; it is open in slot 1
 abbrev other : Slot
 other = record { used = 1; line = 1; number = 0x0103; nodes = marks 0 0x04 }
+
+-- session C0DB of line 0
+abbrev gate : Slot
+gate = record { used = 1; line = 0; number = 0xC0DB; nodes = marks 0 0x04 }
 
 abbrev both : Hub → Hub
 both h = hubWith (set (h .slots) 1 other)
@@ -134,11 +140,18 @@ changes =
     ∷ answers moving (frame 0x3002 (replicate 64 8)) (wire 0x3003 (0 ∷ []))
     ∷ []
 
--- 0210 follows 0201 where the node is in use
+-- 0210 follows 0201 where the node is in use; a table of another length tells of none
+abbrev asked : List ℕ → List ℕ → Row
+asked t reply = row moving t (frame 0x0200 (3 ∷ [])) moving t reply
+
+abbrev house : ℕ → List ℕ
+house n = windows n ++ replicate (table.tableSize - n * recordSize) 0
+
 abbrev information : List Row
 information =
-    answers moving (frame 0x0200 (3 ∷ [])) (wire 0x0201 (0 ∷ 3 ∷ []) ++ wire 0x0210 ((3 ∷ 1 ∷ 1 ∷ 1 ∷ []) ++ replicate 64 1 ++ (0 ∷ 1 ∷ 1 ∷ 0 ∷ 0 ∷ 1 ∷ []) ++ replicate 50 0))
-    ∷ answers moving (frame 0x0200 (4 ∷ [])) (wire 0x0201 (2 ∷ 4 ∷ []))
+    asked (house 4) (wire 0x0201 (0 ∷ 3 ∷ []) ++ wire 0x0210 ((3 ∷ 1 ∷ 1 ∷ 1 ∷ []) ++ replicate 64 1 ++ (0 ∷ 1 ∷ 1 ∷ 0 ∷ 0 ∷ 1 ∷ []) ++ replicate 50 0))
+    ∷ asked (house 3) (wire 0x0201 (2 ∷ 3 ∷ []))
+    ∷ asked (windows 4) (wire 0x0201 (2 ∷ 3 ∷ []))
     ∷ []
 
 -- the node set commands confirm with status 0 and node 3, and store these bytes at this place of its record; status 1 for a variation above 4,
@@ -190,13 +203,13 @@ abbrev rows : List Row
 rows = passwords ++ errors ++ misfits ++ changes ++ information ++ confirms ++ modeSends ++ removals
 
 rows-hold : map tried rows ≡ rows
-unfolding serve request enter same rules.change rules.getNode rules.virginState rules.removeNodes rules.modeSend sessions.modeSend sessions.isLegal sessions.targetsLegal sessions.marked sessions.withBit sessions.holdsRemoved search.any search.first search.below table.setVariation table.setField table.inUse table.bit table.information table.removeBelow table.removeOne lookup.verdict lookup.verdictOf lookup.find directory wire escape framed body xor.xorAll xor._⊕_
+unfolding serve respond bytesOf aboutNode request enter same rules.change rules.virginState rules.removeNodes rules.modeSend sessions.modeSend sessions.isLegal sessions.targetsLegal sessions.marked sessions.withBit sessions.holdsRemoved search.any search.first search.below table.setVariation table.setField table.inUse table.bit table.removeBelow table.removeOne lookup.verdict lookup.verdictOf lookup.find directory wire escape framed body xor.xorAll xor._⊕_
 rows-hold = refl
 
 -- data bytes that are missing count as 0, and a line that is missing is not logged in; the directory and feed let neither come
 missing : request loggedIn (windows 1) 2 0x0206 [] ∷ request loggedIn (windows 1) 2 0x0320 [] ∷ []
-    ≡ record { hub = loggedIn; table = replicate 70 1 ++ 0 ∷ 1 ∷ []; reply = wire 0x0207 (0 ∷ 0 ∷ []) }
-    ∷ record { hub = loggedIn; table = windows 1; reply = wire 0x0321 (0 ∷ 0 ∷ 5 ∷ []) } ∷ []
+    ≡ record { hub = loggedIn; table = replicate 70 1 ++ 0 ∷ 1 ∷ []; says = variationSet 0 0 ∷ [] }
+    ∷ record { hub = loggedIn; table = windows 1; says = modeSendConfirmed 0 5 ∷ [] } ∷ []
 unfolding request rules.modeSend sessions.modeSend sessions.isLegal table.setVariation table.setField table.inUse
 missing = refl
 
@@ -234,23 +247,32 @@ closed : closing 2 ∷ closing 1 ∷ closing 3 ∷ closing 4 ∷ []
 unfolding closing
 closed = refl
 
--- room is judged before the number; the session's line is told, and its number goes high byte first
-finished : finish moving 0x0103 511 ∷ finish moving 0x0103 512 ∷ finish (both moving) 0x0102 512 ∷ finish (both moving) 0x0103 512 ∷ []
-    ≡ record { answer = rules.refusedFinish 9; hub = moving; reply = [] } ∷ record { answer = rules.refusedFinish 13; hub = moving; reply = [] }
+-- a number that is not open is judged before the room; the session's line is told, and its number goes high byte first
+finished : finish moving 0x0103 0 ∷ finish (both moving) 0x0102 8 ∷ finish (both moving) 0x0102 9 ∷ finish (both moving) 0x0103 10 ∷ []
+    ≡ record { answer = rules.refusedFinish 13; hub = moving; reply = [] } ∷ record { answer = rules.refusedFinish 9; hub = both moving; reply = [] }
     ∷ record { answer = rules.finishedOn 2 9; hub = both loggedIn; reply = 0xC0 ∷ 0x00 ∷ 0x05 ∷ 0x03 ∷ 0x04 ∷ 0x01 ∷ 0x02 ∷ 0x01 ∷ 0xC0 ∷ [] }
-    ∷ record { answer = rules.finishedOn 1 9; hub = moving; reply = wire 0x0304 (0x01 ∷ 0x03 ∷ []) } ∷ []
-unfolding rules.notice sessions.finish search.any search.first wire escape framed body xor.xorAll xor._⊕_
+    ∷ record { answer = rules.finishedOn 1 9; hub = moving; reply = 0xC0 ∷ 0x00 ∷ 0x05 ∷ 0x03 ∷ 0x04 ∷ 0x01 ∷ 0x03 ∷ 0x00 ∷ 0xC0 ∷ [] } ∷ []
+unfolding rules.notice bytesOf sessions.finish search.any search.first wire escape framed body xor.xorAll xor._⊕_
 finished = refl
 
-noticed : rules.notice 0xFF00 ≡ 0xC0 ∷ 0x00 ∷ 0x05 ∷ 0x03 ∷ 0x04 ∷ 0xFF ∷ 0x00 ∷ 0xFD ∷ 0xC0 ∷ []
-unfolding rules.notice wire escape framed body xor.xorAll xor._⊕_
+-- bytes that are escaped count twice
+noticed : rules.notice 0xC0DB ≡ 0xC0 ∷ 0x00 ∷ 0x05 ∷ 0x03 ∷ 0x04 ∷ 0xDB ∷ 0xDC ∷ 0xDB ∷ 0xDD ∷ 0x19 ∷ 0xC0 ∷ []
+unfolding rules.notice bytesOf wire escape framed body xor.xorAll xor._⊕_
 noticed = refl
 
--- feed judges the table, then the line, then the room
-refusal : List ℕ → ℕ → ℕ → Option ℕ
-refusal t l room = rules.hub .refusal moving t emptied l [] room
+escaped : finish (opened gate) 0xC0DB 10 .answer ∷ finish (opened gate) 0xC0DB 11 .answer ∷ [] ≡ rules.refusedFinish 9 ∷ rules.finishedOn 0 11 ∷ []
+unfolding rules.notice bytesOf sessions.finish search.any search.first wire escape framed body xor.xorAll xor._⊕_
+escaped = refl
 
-fed : refusal (replicate 14399 1) 4 511 ∷ refusal (replicate 14400 1) 4 511 ∷ refusal (replicate 14400 1) 3 511 ∷ refusal (replicate 14400 1) 3 512 ∷ []
-    ≡ some 7 ∷ some 8 ∷ some 9 ∷ none ∷ []
-unfolding refusal
+-- feed judges the table, then the line, then what it would write: nothing, or the error reply of 8 bytes
+refusal : List ℕ → ℕ → List ℕ → ℕ → Option ℕ
+refusal t l bytes room = rules.hub .refusal moving t emptied l bytes room
+
+part : List ℕ
+part = 0xC0 ∷ 0x00 ∷ 0x03 ∷ 0x00 ∷ 0x01 ∷ 0x02 ∷ []
+
+fed : refusal (replicate 14399 1) 4 (part ++ 0xC0 ∷ []) 0 ∷ refusal (replicate 14400 1) 4 (part ++ 0xC0 ∷ []) 0 ∷ refusal (replicate 14400 1) 3 (part ++ 0xC0 ∷ []) 7
+    ∷ refusal (replicate 14400 1) 3 (part ++ 0xC0 ∷ []) 8 ∷ refusal (replicate 14400 1) 3 part 0 ∷ refusal (replicate 14400 1) 3 [] 0 ∷ []
+    ≡ some 7 ∷ some 8 ∷ some 9 ∷ none ∷ none ∷ none ∷ []
+unfolding refusal part scan onward step verdict line.step line.close inner line.decoded judge serve respond bytesOf request wire escape framed body xor.xorAll xor._⊕_ lookup.verdict lookup.verdictOf lookup.find directory
 fed = refl

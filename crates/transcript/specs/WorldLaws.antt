@@ -17,7 +17,6 @@ use Rattle.frame.specs.declared.FrameOutcome.the-variants as given
 use Rattle.feeds.specs.System as system
 use Rattle.feeds.specs.Service.{lengthOf, called}
 use Rattle.feeds.specs.ServiceLaws.{call-length, refused-untouched}
-use Rattle.frame.specs.Writer.{minRoom}
 use Rattle.sessions.specs.Sessions as sessions
 use Rattle.rules.specs.declared.Hub.{Hub}
 use Rattle.rules.specs.Hub as rules
@@ -69,12 +68,12 @@ call-told (call.Refused r) = refl
 
 -- the length that finish tells is the reply's
 finish-length : (h : Hub) (x room l k : ℕ) → rules.finish h x room .answer ≡ rules.finishedOn l k → k ≡ length (rules.finish h x room .reply)
-finish-length h x room l k = go (ltb room minRoom) (sessions.finish (h .slots) x)
+finish-length h x room l k = go (sessions.finish (h .slots) x) (ltb room (length (rules.notice x)))
   where
-    go : (b : Bool) (o : Option sessions.Finished) → rules.finishBy b o h x .answer ≡ rules.finishedOn l k → k ≡ length (rules.finishBy b o h x .reply)
-    go true o e = let z : _≡_ {A = ℕ} 0 1 = cc in absurd (omega arith)
-    go false none e = let z : _≡_ {A = ℕ} 0 1 = cc in absurd (omega arith)
-    go false (some f) e = cc
+    go : (o : Option sessions.Finished) (b : Bool) → rules.finishBy o b h x .answer ≡ rules.finishedOn l k → k ≡ length (rules.finishBy o b h x .reply)
+    go none b e = let z : _≡_ {A = ℕ} 0 1 = cc in absurd (omega arith)
+    go (some f) true e = let z : _≡_ {A = ℕ} 0 1 = cc in absurd (omega arith)
+    go (some f) false e = cc
 
 -- the outcome that is written is the one told
 outcome-told : (u : ℕ) (o : Given) (bs reply : List ℕ) → length bs ≡ limit → outcome.Within o → outcomeLine u o reply false ≡ outcomeTold u (outcome.told o bs) reply

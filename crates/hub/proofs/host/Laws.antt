@@ -1,11 +1,10 @@
 -- Laws of finishing a session.
 use Prim.Native.Nat.{ℕ, _≤_, _<_}
-use mathlib.Core.Path.{_≡_, ap}
-use mathlib.Core.List.{List}
+use mathlib.Core.Path.{_≡_, ap, _∙_}
+use mathlib.Core.List.{List, [], _++_}
 use mathlib.Core.Option.{none, some}
-use lib.ListN.{length}
+use lib.ListN.{length, drop}
 use borrow.Author.Tests.{lt-ltb, le-ltb}
-use Rattle.frame.specs.Writer.{minRoom}
 use Rattle.sessions.specs.declared.Slot.{Slot}
 use Rattle.sessions.specs.Sessions as sessions
 use Rattle.rules.specs.declared.Hub.{Hub}
@@ -13,25 +12,22 @@ use Rattle.rules.specs.declared.CallRefusal.the-variants as cause
 use Rattle.rules.specs.declared.FinishAnswer.the-variants as answer
 use Rattle.rules.specs.Hub.{withSlots, finishedOn, notice}
 use Rattle.rules.specs.Promises.{Finishes}
-use Rattle.rules.specs.Room.{Replied}
 
 module _ (h : Hub) (x : ℕ) (space : List ℕ) where
-  -- finishing with short room, a number that is not open, and one that is
-  pub finish-short : length space < minRoom → Finishes h x space (answer.Refused cause.ShortRoom) h space
-  finish-short e = record { answer = rw (lt-ltb (length space) minRoom e); hub = rw (lt-ltb (length space) minRoom e); room = rw (lt-ltb (length space) minRoom e) }
+  -- finishing a number that is not open
+  pub finish-not-open : sessions.finish (h .slots) x ≡ none → Finishes h x space (answer.Refused cause.NotOpen) h space
+  finish-not-open o = record { answer = rw o; hub = rw o; room = rw o }
 
-  module _ (e : minRoom ≤ length space) where
-    pub finish-not-open : sessions.finish (h .slots) x ≡ none → Finishes h x space (answer.Refused cause.NotOpen) h space
-    finish-not-open o = record {
-      answer = rw (le-ltb (length space) minRoom e, o);
-      hub = rw (le-ltb (length space) minRoom e, o);
-      room = rw (le-ltb (length space) minRoom e, o);
-    }
+  module _ (l : ℕ) (ss : List Slot) (o : sessions.finish (h .slots) x ≡ some (record { line = l; slots = ss })) where
+    -- one that is, in room shorter than the notice
+    pub finish-short : length space < length (notice x) → Finishes h x space (answer.Refused cause.ShortRoom) h space
+    finish-short e =
+        let k = lt-ltb (length space) (length (notice x)) e in
+        record { answer = rw (o, k); hub = rw (o, k); room = rw (o, k) }
 
-    pub finish-done : (l n : ℕ) (ss : List Slot) (left : List ℕ) → sessions.finish (h .slots) x ≡ some (record { line = l; slots = ss }) → Replied (notice x) space n left
+    -- and in room for it
+    pub finish-done : (n : ℕ) (left : List ℕ) → length (notice x) ≤ length space → n ≡ length (notice x) → left ≡ notice x ++ drop (length (notice x)) space
         → Finishes h x space (answer.Finished l n) (withSlots h ss) left
-    finish-done l n ss left o w = record {
-      answer = rw (le-ltb (length space) minRoom e, o) (ap (finishedOn l) (w .len));
-      hub = rw (le-ltb (length space) minRoom e, o);
-      room = rw (le-ltb (length space) minRoom e, o) (w .content);
-    }
+    finish-done n left e len room =
+        let k = le-ltb (length space) (length (notice x)) e in
+        record { answer = rw (o, k) (ap (finishedOn l) len); hub = rw (o, k); room = rw (o, k) room }

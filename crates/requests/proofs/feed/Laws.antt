@@ -1,44 +1,80 @@
 -- Laws of the call: what it gives keeps feed's promise.
-use Prim.Native.Nat.{ℕ}
-use mathlib.Core.Path.{_≡_, refl, sym, ap}
-use mathlib.Core.List.{List}
-use mathlib.Core.Option.{none, some}
+use Prim.Native.Nat.{ℕ, _≤_, _<_}
+use mathlib.Core.Path.{_≡_, refl, sym, ap, _∙_}
+use mathlib.Core.List.{List, _++_}
+use mathlib.Core.Option.{Option, none, some}
 use native.Mathlib.Omega.{arith}
-use lib.ListN.{length}
+use lib.ListN.{length, drop}
 use Rattle.line.specs.declared.Reading.{Reading}
+use Rattle.frame.specs.declared.FrameOutcome.{FrameOutcome}
+use Rattle.frame.specs.declared.FrameOutcome.the-variants as told-as
 use Rattle.frame.specs.declared.FrameAnswer.{FrameAnswer}
+use Rattle.frame.specs.Frame.{Outcome}
 use Rattle.frame.specs.Reader.{taken, read}
 use Rattle.frame.specs.Answers as outcome
+use Rattle.nodes.specs.Table.{tableSize}
+use Rattle.replies.specs.Messages.{bytesOf}
+use Rattle.replies.specs.Replies.{says}
 use Rattle.feeds.specs.System.{told, call, decided, settled, serveIf}
 use Rattle.feeds.specs.CallLaws.{call-refused}
 use Rattle.rules.specs.declared.Hub.{Hub}
 use Rattle.rules.specs.declared.CallRefusal.{CallRefusal}
+use Rattle.rules.specs.declared.CallRefusal.the-variants as cause
 use Rattle.rules.specs.declared.FeedAnswer.the-variants as feed
-use Rattle.rules.specs.Hub.{feedRefusal, hub}
+use Rattle.rules.specs.Hub.{respond, respondIf, serve, written, feedRefusal, hub}
+use Rattle.rules.specs.Refusals.{refused-room, not-refused}
 use Rattle.rules.specs.Answers.{number}
 use Rattle.rules.specs.Promises.{Feeds}
-use Rattle.requests.specs.declared.Served.{Served}
-use Rattle.requests.specs.Answers.{Serves}
+use Rattle.requests.specs.declared.Decided.{Decided}
+use Rattle.requests.specs.Answers.{dataIn, storedBy, Decides}
+
+-- serving what was read is what the hub makes of it, as bytes
+served : (h : Hub) (t : List ℕ) (l : ℕ) (o : Option Outcome)
+    → serveIf hub h t l o ≡ record { hub = respondIf h t l o .hub; table = respondIf h t l o .table; reply = written h t l o }
+unfolding serveIf serve bytesOf
+served h t l none = refl
+served h t l (some o) = refl
+
+-- where there is no frame, nothing is stored; the definition's table stays then
+pub stored-by : (h : Hub) (t : List ℕ) (l : ℕ) (o : FrameOutcome) (bs : List ℕ) (r : Decided)
+    → Decides (respondIf h t l (outcome.told o bs)) t (dataIn o bs) r → storedBy o (r .reply) bs t ≡ respondIf h t l (outcome.told o bs) .table
+unfolding respond
+stored-by h t l told-as.Nothing bs r x = refl
+stored-by h t l (told-as.Frame c n) bs r x = x .table
+stored-by h t l (told-as.Refused c) bs r x = refl
 
 module _ (h : Hub) (t : List ℕ) (r : Reading) (l : ℕ) (bytes space : List ℕ) where
   -- a refused feed leaves everything as it was lent
-  pub refused-feeds : (why : CallRefusal) → feedRefusal t l (length space) ≡ some (number why) → Feeds h t r l bytes space (feed.Refused why) h t r space
+  pub refused-feeds : (why : CallRefusal) → feedRefusal h t (taken r) l bytes (length space) ≡ some (number why) → Feeds h t r l bytes space (feed.Refused why) h t r space
   refused-feeds why e =
       let x = call-refused hub h t (taken r) l bytes (length space) (number why) e in
       record { hub = rw x; table = rw x; state = rw x; answer = rw x; room = rw x; kept = λ m y. refl; bounded = tt }
 
-  -- any other is what was read and how it was served
-  pub served-feeds : (a : FrameAnswer) (s : Served) (table left : List ℕ) → feedRefusal t l (length space) ≡ none
-      → outcome.Answers (read (taken r) bytes) a
-      → Serves (serveIf hub h t l (outcome.told (a .outcome) (a .reading .bytes))) space s table left
-      → Feeds h t r l bytes space (feed.Told (a .used) (a .outcome) (s .len)) (s .hub) table (a .reading) left
-  unfolding call decided settled
-  served-feeds a s table left e x y = record {
-    hub = rw (e, sym (x .told)) (y .hub);
-    table = rw (e, sym (x .told)) (y .table);
-    state = rw (e, sym (x .told));
-    answer = rw (e, sym (x .told)) (ap (told (a .used) (outcome.told (a .outcome) (a .reading .bytes))) (y .replied .len));
-    room = rw (e, sym (x .told)) (y .replied .content);
-    kept = λ n z. let u : _≡_ {A = ℕ} 0 1 = cc in absurd (omega arith);
-    bounded = ((x .full, x .count-within, x .clear), x .data-within);
-  }
+  module _ (a : FrameAnswer) (d : Decided) (right : length t ≡ tableSize) (line : l ≤ 3) (x : outcome.Answers (read (taken r) bytes) a)
+      (y : Decides (respondIf h t l (outcome.told (a .outcome) (a .reading .bytes))) t (dataIn (a .outcome) (a .reading .bytes)) d) where
+    -- what is decided is what the feed writes
+    to-write : bytesOf (says t (d .reply)) ≡ written h t l (read (taken r) bytes .outcome)
+    to-write = rw (sym (x .told)) (ap bytesOf (y .says))
+
+    -- longer than the room, it is refused
+    pub short-feeds : length space < length (bytesOf (says t (d .reply))) → Feeds h t r l bytes space (feed.Refused cause.ShortRoom) h t r space
+    short-feeds k = refused-feeds cause.ShortRoom (refused-room h t (taken r) l bytes (length space) right line (rw to-write at k))
+
+    -- otherwise it is told, with hub and table as they are decided
+    pub told-feeds : (n : ℕ) (table left : List ℕ) → length (bytesOf (says t (d .reply))) ≤ length space → n ≡ length (bytesOf (says t (d .reply)))
+        → table ≡ storedBy (a .outcome) (d .reply) (a .reading .bytes) t → left ≡ bytesOf (says t (d .reply)) ++ drop (length (bytesOf (says t (d .reply)))) space
+        → Feeds h t r l bytes space (feed.Told (a .used) (a .outcome) n) (d .hub) table (a .reading) left
+    unfolding call decided settled
+    told-feeds n table left k len store room =
+        let o = outcome.told (a .outcome) (a .reading .bytes) in
+        let e = not-refused h t (taken r) l bytes (length space) right line (rw to-write at k) in
+        let w : bytesOf (says t (d .reply)) ≡ written h t l o = ap bytesOf (y .says) in
+        record {
+          hub = rw (e, sym (x .told), served h t l o) (y .hub);
+          table = rw (e, sym (x .told), served h t l o) (store ∙ stored-by h t l (a .outcome) (a .reading .bytes) d y);
+          state = rw (e, sym (x .told));
+          answer = rw (e, sym (x .told), served h t l o) (ap (told (a .used) o) (len ∙ ap length w));
+          room = rw (e, sym (x .told), served h t l o) (room ∙ ap (λ (z : List ℕ). z ++ drop (length z) space) w);
+          kept = λ m z. let u : _≡_ {A = ℕ} 0 1 = cc in absurd (omega arith);
+          bounded = ((x .full, x .count-within, x .clear), x .data-within);
+        }

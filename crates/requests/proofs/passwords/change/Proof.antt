@@ -20,7 +20,9 @@ returns c = simp (sym (c .before .is-same .ensures) ∙ not-true _ (c .if1 .take
 
 returns-2 : tie.Need-returns-2
 unfolding change
-returns-2 c = simp (sym (c .before .before .before .is-same .ensures) ∙ not-false _ (c .before .before .if1 .left)) (record { status = refl; hub = refl })
+returns-2 c = simp (sym (c .before .is-same .ensures) ∙ not-false _ (c .if1 .left)) (record { status = refl; hub = refl })
 
 pub change-spec : {M : Type 1} → statement M
-change-spec = tie.close (tie.spec slice-aggregate-is-same slice-aggregate-is-same-2 is-same-requires returns returns-2)
+change-spec =
+    tie.close
+    (tie.spec slice-aggregate-is-same slice-aggregate-is-same-2 is-same-requires returns returns-2)

@@ -18,12 +18,20 @@ returns : tie.Need-returns
 unfolding enter
 returns c = simp (sym (c .before .is-same .ensures) ∙ not-true _ (c .if1 .taken)) (record { status = refl; hub = refl })
 
-with-login-requires : tie.Need-with-login-requires
-with-login-requires c κs = search needs
+element-write-next : tie.Need-element-write-next
+element-write-next c = search needs
 
 returns-2 : tie.Need-returns-2
 unfolding enter
-returns-2 c = simp (sym (c .before .before .before .before .is-same .ensures) ∙ not-false _ (c .before .before .before .if1 .left), c .before .with-login .ensures) (record { status = refl; hub = refl })
+returns-2 c = simp (sym (c .before .is-same .ensures) ∙ not-false _ (c .if1 .left)) (record { status = refl; hub = refl })
 
 pub enter-spec : {M : Type 1} → statement M
-enter-spec = tie.close (tie.spec slice-aggregate-is-same slice-aggregate-is-same-2 is-same-requires returns with-login-requires returns-2)
+enter-spec =
+    tie.close
+    (tie.spec
+    slice-aggregate-is-same
+    slice-aggregate-is-same-2
+    is-same-requires
+    returns
+    element-write-next
+    returns-2)
