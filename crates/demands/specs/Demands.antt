@@ -1,19 +1,21 @@
 -- Demands 1 and 2, and the accident behind them, of any calls of the host and the serial service that keep their promises, in any order and
 -- number, each on what the last one left (Steps). Words in quotes are the papers'. Demand 3 is said so in Demand3.
-use Prim.Native.Nat.{ℕ, _<_}
+use Prim.Native.Nat.{ℕ, _≤_, _<_}
 use mathlib.Core.Path.{_≡_, refl, sym, ap, ap₂, _∙_}
 use mathlib.Core.List.{List, [], _++_, map}
-use mathlib.Core.Bool.{Bool, true, false, cond}
+use mathlib.Core.Bool.{Bool, true, false, cond, not}
 use mathlib.Core.Option.{Option, none, some, Option·none-ne-some, Option·some-injective}
 use native.Mathlib.Omega.{arith}
 use lib.ListN.{length, take, drop, getD, set, replicate, length-map}
 use lib.Seq.{set-getD, take-at}
 use lib.Dec.{ltb}
+use borrow.Author.Tests.{lt-ltb, ltb-true}
 use Rattle.frame.specs.declared.Written.{Written}
 use Rattle.frame.specs.declared.WrittenAt.{WrittenAt}
 use Rattle.frame.specs.Writer as writer
 use Rattle.frame.specs.Writer.{Writing, upTo, noFit, write, writeAt, Writes}
 use Rattle.frame.specs.WireLaws.{Unwritten, write-refusal, write-untouched, place-untouched}
+use Rattle.nodes.specs.Table.{tableSize}
 use Rattle.line.specs.declared.Reading.{Reading}
 use Rattle.frame.specs.Frame as packet
 use Rattle.frame.specs.Frame.{Outcome, maxData, wire}
@@ -33,7 +35,7 @@ use Rattle.feeds.specs.ServiceLaws as service
 use Rattle.feeds.specs.ServiceLaws.{run-results, run-answers, run-end}
 use Rattle.feeds.specs.Demand3.{Line, recordAt, own-taken, has-line}
 use Rattle.rules.specs.declared.Hub.{Hub}
-use Rattle.rules.specs.Hub.{passwordSize, freshHub, firstHub, startRefusal, startBy, Started, Enrolled, Closed, Finish, refusedFinish, finishedOn, Finished, finishBy, notice, refuseIf, lineCount, feedRefusal, Reply, isLoggedIn, hub}
+use Rattle.rules.specs.Hub.{passwordSize, freshHub, firstHub, startRefusal, startBy, Started, Enrolled, Closed, Finish, refusedFinish, finishedOn, Finished, finishBy, notice, shortRoom, refuseIf, lineCount, feedRefusal, Reply, isLoggedIn, hub}
 use Rattle.rules.specs.Answers.{finishOf, FinishedSession, answerOf, fedOf}
 use Rattle.rules.specs.PromiseLaws.{feeds-promise}
 use Rattle.demands.specs.Calls.{World}
@@ -42,9 +44,10 @@ use Rattle.demands.specs.Invariants.{Unchanged, OneAtMost}
 use Rattle.demands.specs.Steps.{Memory, Step, start, finish, feed, Return, finished, fed, lineRecord, Made, starts, enrols, closes, finishes, feeds, Steps, refusal, finishTells, feedTells, refusalTold, isRefused, roomLent, roomBack, recordLent, recordBack, Unprivileged, loggedByAll, callOf}
 use Rattle.demands.specs.StepsLaws.{made-refusal, steps-without, steps-after, steps-logged, steps-unprivileged, steps-any}
 use Rattle.rules.specs.Frames.{Frames, no-frames, serve-frames, notice-frames}
-use Rattle.rules.specs.Refusals.{start-refused, enrol-refused, close-refused, finish-refused}
+use Rattle.rules.specs.Refusals.{start-refused, enrol-refused, close-refused, finish-refused, written-served, refused-room, refused-exactly}
 use Rattle.demands.specs.Guard as guard
 use Rattle.demands.specs.Logins.{logged-exactly}
+use Rattle.sessions.specs.Search.{any as anySlot}
 use Rattle.sessions.specs.Sessions as sessions
 use Rattle.sessions.specs.Sessions.{slotCount}
 use Rattle.demands.specs.OneHolder.{free, one-holder}
@@ -83,6 +86,10 @@ pub record Answered (m : Memory) (g : Lent) (o : Got hub) (v : Memory) (u : ℕ)
   pub count : k ≡ length (r .reply)
   pub reply : o .room ≡ r .reply ++ drop k (g .room)
 
+-- what a feed would write: what its outcome is answered with
+abbrev pub toWrite : Memory → Lent → List ℕ
+toWrite m g = serveIf hub (m .hub) (m .table) (g .line) (read (taken (recordFor hub m g)) (g .bytes) .outcome) .reply
+
 -- the refusal that applies to writing, if any, and the one that it tells
 abbrev pub writeRefusal : ℕ → ℕ → List ℕ → Option ℕ
 writeRefusal room c d = refuseIf (ltb maxData (length d)) writer.longData (refuseIf (ltb room (length (wire c d))) writer.shortRoom none)
@@ -97,6 +104,13 @@ pub record Demand1 : Type 0 where
   pub any : (m : Memory) (ss : List Step) → (os : List Return) × (e : Memory) × Steps m ss os e
   -- a call is refused exactly if a refusal applies to it, with the number of the first that does
   pub exactly : {m v : Memory} {s : Step} {o : Return} → Made m s o v → refusalTold o ≡ refusal m s
+  -- document 02: "Refusal 9 is to be given exactly when what a call would write is longer than the room lent", and it is judged last
+  pub feed-short : {m v : Memory} {g : Lent} {o : Got hub} → Made m (feed g) (fed o) v → refusalTold (fed o) ≡ some 9 → length (g .room) < length (toWrite m g)
+  pub short-feed : {m v : Memory} {g : Lent} {o : Got hub} → Made m (feed g) (fed o) v → length (m .table) ≡ tableSize → g .line ≤ 3 → length (g .room) < length (toWrite m g)
+      → refusalTold (fed o) ≡ some 9
+  pub finish-short : {m v : Memory} {x : ℕ} {room : List ℕ} {o : FinishedSession} → Made m (finish x room) (finished o) v → refusalTold (finished o) ≡ some 9 → length room < length (notice x)
+  pub short-finish : {m v : Memory} {x : ℕ} {room : List ℕ} {o : FinishedSession} → Made m (finish x room) (finished o) v → anySlot (sessions.isNumbered x) (m .hub .slots) ≡ true
+      → length room < length (notice x) → refusalTold (finished o) ≡ some 9
   -- "A refused call changes neither the hub nor lent memory;"
   pub untouched : {m v : Memory} {s : Step} {o : Return} → Made m s o v → (n : ℕ) → refusalTold o ≡ some n → Untouched m s o v
   -- the frame writer, which keeps nothing: refused exactly if its data are above 250 bytes (10), or else longer than the room once written (9),
@@ -290,8 +304,36 @@ writer-untouched room c d r left x n = go (writer.told r) refl
 writer-place : (room : List ℕ) (i c : ℕ) (d : List ℕ) (r : WrittenAt) (left : List ℕ) → Writes (writeAt room i c d) (writer.toldAt r) left → Unwritten (writer.toldAt r) → left ≡ room
 writer-place room i c d r left x u = x .room ∙ place-untouched room i c d (rw (x .answer) at u)
 
+-- refusal 9, by what would be written
+made-feed-short : {m v : Memory} {g : Lent} {o : Got hub} → Made m (feed g) (fed o) v → refusalTold (fed o) ≡ some 9 → length (g .room) < length (toWrite m g)
+unfolding refusal
+made-feed-short {m} {v} {g} x e =
+    refused-exactly (m .hub) (m .table) (taken (recordFor hub m g)) (g .line) (g .bytes) (length (g .room)) (sym (made-refusal x) ∙ e) .2
+
+made-short-feed : {m v : Memory} {g : Lent} {o : Got hub} → Made m (feed g) (fed o) v → length (m .table) ≡ tableSize → g .line ≤ 3 → length (g .room) < length (toWrite m g)
+    → refusalTold (fed o) ≡ some 9
+unfolding refusal
+made-short-feed {m} {v} {g} x size line k =
+    made-refusal x
+    ∙ refused-room (m .hub) (m .table) (taken (recordFor hub m g)) (g .line) (g .bytes) (length (g .room)) size line
+    (rw (written-served (m .hub) (m .table) (g .line) (read (taken (recordFor hub m g)) (g .bytes) .outcome)) at k)
+
+made-finish-short : {m v : Memory} {x : ℕ} {room : List ℕ} {o : FinishedSession} → Made m (finish x room) (finished o) v → refusalTold (finished o) ≡ some 9 → length room < length (notice x)
+unfolding refusal
+made-finish-short {m} {v} {x} {room} y e = go (anySlot (sessions.isNumbered x) (m .hub .slots)) (ltb (length room) (length (notice x))) refl (sym (made-refusal y) ∙ e)
+  where
+    go : (a b : Bool) → ltb (length room) (length (notice x)) ≡ b → refuseIf (not a) sessions.notOpen (refuseIf b shortRoom none) ≡ some 9 → length room < length (notice x)
+    go true true q z = ltb-true (length room) (length (notice x)) q
+    go true false q z = absurd (Option·none-ne-some 9 z)
+    go false b q z = let k : _≡_ {A = ℕ} 13 9 = cc in absurd (omega arith)
+
+made-short-finish : {m v : Memory} {x : ℕ} {room : List ℕ} {o : FinishedSession} → Made m (finish x room) (finished o) v → anySlot (sessions.isNumbered x) (m .hub .slots) ≡ true
+    → length room < length (notice x) → refusalTold (finished o) ≡ some 9
+unfolding refusal
+made-short-finish {m} {v} {x} {room} y o k = made-refusal y ∙ rw (o, lt-ltb (length room) (length (notice x)) k)
+
 pub demand-1 : Demand1
-demand-1 = record { any = steps-any; exactly = made-refusal; untouched = made-untouched; write-exactly = writer-exactly; write-untouched = writer-untouched; place-untouched = writer-place; without = steps-without (λ m v s o x n p. made-untouched x n p .memory); used-up = made-used-up }
+demand-1 = record { any = steps-any; exactly = made-refusal; feed-short = made-feed-short; short-feed = made-short-feed; finish-short = made-finish-short; short-finish = made-short-finish; untouched = made-untouched; write-exactly = writer-exactly; write-untouched = writer-untouched; place-untouched = writer-place; without = steps-without (λ m v s o x n p. made-untouched x n p .memory); used-up = made-used-up }
 
 -- what is written: the reply to the outcome, which is frames
 serveIf-frames : (h : Hub) (t : List ℕ) (l : ℕ) (y : Option Outcome) → Frames (serveIf hub h t l y .reply)

@@ -35,7 +35,7 @@ module _ (h : Hub) (t : List ℕ) (s : State) (l : ℕ) (bytes : List ℕ) (room
       }
   refused-packet n p q = packet-refused hub h t s l bytes room only-error-reply n p q
 
--- a line of the four, with room for the longest reply, and a table of the right length
+-- a line of the four, with room for the longest reply, and a table of the right length; for other rooms, and refused feeds, see Demand2, `cut`
 module _ (w : World) (l room : ℕ) (spare : State) (line : l < lineCount) (enough : longestReply ≤ room) (size : length (w .table) ≡ tableSize) (four : length (w .states) ≡ lineCount) where
   -- any bytes can be used up, in any pieces
   pub used-up : (pieces : List (List ℕ)) → usedOn l (inPieces hub l room spare w pieces) (answersOf hub w (inPieces hub l room spare w pieces)) ≡ flatten pieces

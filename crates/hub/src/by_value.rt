@@ -29,7 +29,7 @@ pub fn feed_by_value(
     fed_with(fed, lent)
 }
 
-// The same on a record whose bytes stay where they lie: they are not copied.
+// The same with the record's bytes lent, and count and mode by value.
 pub fn feed_in(
     hub: Hub,
     table: &mut [u8],

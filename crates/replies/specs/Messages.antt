@@ -1,4 +1,4 @@
--- What the hub sends: each frame as a message with its fields, by the layouts of document 01 and of the specification's sections 7, 8 and 10.
+-- What the hub sends: each frame as a message with its fields, by the layouts of document 01 and of the specification's sections 5 to 8 and 10.
 -- A reply is some of them, one behind another.
 use Prim.Native.Nat.{ℕ, _/_, _%_}
 use mathlib.Core.List.{List, [], _∷_, _++_}

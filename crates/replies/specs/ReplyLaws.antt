@@ -8,7 +8,7 @@ use native.Mathlib.Omega.{arith}
 use lib.ListN.{length, take, drop, length-append, length-drop}
 use lib.Seq.{length-take-le, drop-at}
 use lib.Dec.{ltb, eqb}
-use borrow.Author.Tests.{lt-ltb, le-ltb, ltb-true, ltb-false, eqb-true}
+use borrow.Author.Tests.{lt-ltb, le-ltb, ltb-true, ltb-false, eq-eqb, eqb-true}
 use Rattle.frame.specs.Frame.{wire, maxData}
 use Rattle.frame.specs.Writer.{shortRoom, Writing, upTo, refused, noFit, Wire, write, writeAt, measured, Writes}
 use Rattle.frame.specs.WireLaws.{wire-short, numbered}
@@ -50,6 +50,12 @@ aboutNode-none t n e = rw e (bytesOf-one _)
 pub aboutNode-told : (t : List ℕ) (n : ℕ) → isTold t n ≡ true → bytesOf (aboutNode t n) ≡ wire 0x0201 (accepted ∷ n ∷ []) ++ wire 0x0210 (information t n)
 unfolding aboutNode information
 aboutNode-told t n e = rw e (bytesOf-two _ _)
+
+-- with a table of the right length, by the node's use alone
+pub aboutNode-rule : (t : List ℕ) (n : ℕ) → length t ≡ tableSize
+    → aboutNode t n ≡ cond (inUse t n) (informationConfirmed accepted n ∷ nodeInformation (informationOf t n) ∷ []) (informationConfirmed invalidNode n ∷ [])
+unfolding aboutNode
+aboutNode-rule t n e = rw (eq-eqb (length t) tableSize e)
 
 -- ---- lengths
 

@@ -1,6 +1,6 @@
 // The requests: a frame on a line is judged, and what is answered to it is decided, with the hub that it leaves (document 01, "The command
 // directory", "What the commands do"). Nothing lent is changed here. Reply and hub are the definition's: crate rules, specs/Hub.antt: respond.
-ghost use Prim.Native.Nat.{_+_, _≤_, _<_};
+ghost use Prim.Native.Nat.{_+_, _<_};
 ghost use mathlib.Core.Path.{_≡_};
 ghost use mathlib.Core.Option.{none};
 ghost use lib.ListN.{length};

@@ -47,7 +47,7 @@ pub fn call(
     fed_of(held, fed)
 }
 
-// The same on a record whose bytes stay where they lie: they are not copied.
+// The same with the record's bytes lent: they are read on a copy, which is put in their place once the reply is written.
 pub fn call_in(
     hub: Hub,
     table: &mut [u8],

@@ -1,6 +1,6 @@
 -- The longest reply has 212 bytes on the wire: 10 of frame 0201, and 202 of frame 0210. No hub, table, line or outcome gives a longer one.
 use Prim.Native.Nat.{ℕ, _+_, _*_, _≤_}
-use mathlib.Core.Path.{_≡_, refl, subst}
+use mathlib.Core.Path.{_≡_, refl, ap, subst}
 use mathlib.Core.List.{List, [], _∷_, _++_}
 use mathlib.Core.Bool.{Bool, true, false}
 use mathlib.Core.Option.{Option, none, some}
@@ -19,15 +19,16 @@ use Rattle.frame.specs.WireLaws.{wire-length, wire-short}
 use Rattle.frame.specs.DoubledLaws.{Kind, end, esc, usual, kind, escape-next, isOdd, Remains, oneEnd, oneEsc, Doubled, fewer, all, doubled}
 use Rattle.nodes.specs.Table as table
 use Rattle.nodes.specs.Table.{fieldOf, information, informationSize}
+use Rattle.sessions.specs.Search.{any, first}
 use Rattle.sessions.specs.Sessions as sessions
 use Rattle.directory.specs.Directory.{directory}
 use Rattle.directory.specs.Lookup as lookup
 use Rattle.replies.specs.Messages.{Message, informationConfirmed, sessionFinished, commandOf, dataOf, wireOf, bytesOf, aboutNode}
 use Rattle.feeds.specs.System.{refused as refusedFeed, told, serveIf, settled, decided, call}
 use Rattle.rules.specs.declared.Hub.{Hub}
-use Rattle.rules.specs.Hub.{passwordSize, Response, removeNodes, virginState, modeSend, request, mayAsk, respond, serve, finishedOn, notice, finishBy, finish, written, feedRefusal, hub}
+use Rattle.rules.specs.Hub.{passwordSize, Response, removeNodes, virginState, modeSend, request, mayAsk, respond, serve, finishedOn, notice, Finished, finishBy, finish, written, feedRefusal, hub}
 use Rattle.rules.specs.Cases.{either, each-verdict, each-request}
-use Rattle.rules.specs.Refusals.{not-refused}
+use Rattle.rules.specs.Refusals.{not-refused, finish-done}
 
 -- ---- frame 0201: node and check byte are not both doubled
 
@@ -159,7 +160,14 @@ feed-longest h t s l bytes room used o n e = go (feedRefusal h t s l bytes room)
     go none none x = let z : n ≡ 0 = cc in omega arith
     go none (some q) x = let z : n ≡ length (serve h t l q .reply) = cc in omega (arith, longest h t l q)
 
--- and finish
+-- and finish: no room of that length is refused
+pub notice-longest : (x : ℕ) → length (notice x) ≤ 212
+unfolding notice
+notice-longest x = frame-short (sessionFinished x) (omega arith)
+
+pub finish-enough : (h : Hub) (x room : ℕ) → any (sessions.isNumbered x) (h .slots) ≡ true → longestReply ≤ room → finish h x room .answer ≡ finishedOn (getD (h .slots) (first (sessions.isNumbered x) (h .slots)) sessions.closedSlot .line) (length (notice x))
+finish-enough h x room o e = ap (λ (f : Finished). f .answer) (finish-done h x room o (omega (arith, notice-longest x)))
+
 pub finish-longest : (h : Hub) (x room l n : ℕ) → finish h x room .answer ≡ finishedOn l n → n ≤ 212
 unfolding notice
 finish-longest h x room l n e = go (sessions.finish (h .slots) x) (ltb room (length (notice x))) e

@@ -3,24 +3,25 @@ use Prim.Native.Nat.{ℕ, _≤_, _<_}
 use mathlib.Core.Path.{_≡_, refl, sym, ap, _∙_}
 use mathlib.Core.List.{List, [], _∷_, _++_}
 use mathlib.Core.Option.{Option, none, some, Option·none-ne-some}
-use mathlib.Core.Bool.{Bool, true, false}
+use mathlib.Core.Bool.{Bool, true, false, not}
 use native.Mathlib.Omega.{arith}
-use Rattle.frame.specs.Frame.{refused}
+use Rattle.frame.specs.Frame.{Outcome, refused, wire, escape, framed, body}
+use Rattle.frame.specs.Xor as xor
 use Rattle.line.specs.declared.Reading.{Reading}
 use Rattle.frame.specs.Reader.{State, emptied, read, taken}
-use lib.Dec.{ltb}
+use lib.Dec.{ltb, eqb}
 use lib.ListN.{length, drop, getD, set, replicate}
-use borrow.Author.Tests.{eq-eqb, ne-eqb, lt-ltb, le-ltb}
+use borrow.Author.Tests.{eq-eqb, eqb-true, ne-eqb, lt-ltb, ltb-true, le-ltb}
 use Rattle.nodes.specs.Table.{tableSize, nodeCount, inUse, enrolled}
 use Rattle.nodes.specs.TableLaws.{used-below}
 use Rattle.sessions.specs.Sessions as sessions
 use Rattle.sessions.specs.Search.{any, first}
 use Rattle.sessions.specs.Sessions.{slotCount, closedSlot, isNumbered}
-use Rattle.feeds.specs.System.{refused as refusedFeed, Called, call}
+use Rattle.feeds.specs.System.{refused as refusedFeed, serveIf, Called, call}
 use Rattle.feeds.specs.CallLaws.{call-refused, answer-refused}
 use Rattle.replies.specs.Messages.{error, bytesOf}
 use Rattle.rules.specs.declared.Hub.{Hub}
-use Rattle.rules.specs.Hub.{frameError, respond, serve, startRefusal, startBy, start, enrolRefusal, enrolBy, enrol, closeRefusal, closeBy, Closed, closedLine, close, Finish, refusedFinish, finishedOn, Finished, finishBy, finish, notice, withSlots, lineCount, passwordSize, written, feedRefusal, hub}
+use Rattle.rules.specs.Hub.{frameError, respond, serve, startRefusal, startBy, start, enrolRefusal, enrolBy, enrol, closeRefusal, closeBy, Closed, closedLine, close, Finish, refusedFinish, finishedOn, Finished, finishBy, finish, notice, withSlots, lineCount, passwordSize, written, refuseIf, wrongTable, wrongLine, shortRoom, feedRefusal, hub}
 use Rattle.rules.specs.declared.CallAnswer.{CallAnswer}
 use Rattle.rules.specs.declared.FinishAnswer.{FinishAnswer}
 use Rattle.rules.specs.Answers.{refusalOf, finishOf}
@@ -78,6 +79,12 @@ pub feed-again : (h : Hub) (t : List ℕ) (s : State) (l : ℕ) (bytes : List �
     c .result .answer ≡ refusedFeed n → (k : ℕ) (other : List ℕ) (more : ℕ) → call hub (c .hub) (c .table) (c .state) k other more ≡ call hub h t s k other more
 feed-again h t s l bytes room n e k other more =
     ap (λ (c : Called hub). call hub (c .hub) (c .table) (c .state) k other more) (call-refused hub h t s l bytes room n (answer-refused hub h t s l bytes room n e))
+
+-- what a feed would write is what its outcome is answered with
+pub written-served : (h : Hub) (t : List ℕ) (l : ℕ) (o : Option Outcome) → serveIf hub h t l o .reply ≡ written h t l o
+unfolding serveIf serve bytesOf
+written-served h t l none = refl
+written-served h t l (some o) = refl
 
 -- ---- when a call is refused, in the order of the numbers
 
@@ -145,3 +152,25 @@ module _ (h : Hub) (t : List ℕ) (s : State) (l : ℕ) (bytes : List ℕ) (room
   pub nothing-written : length t ≡ tableSize → l ≤ 3 → read s bytes .outcome ≡ none → feedRefusal h t s l bytes room ≡ none
   unfolding bytesOf
   nothing-written e k o = not-refused e k (rw o (omega arith))
+
+  -- and none but these is refused 9: what is judged is what the feed's outcome is answered with
+  pub refused-exactly : feedRefusal h t s l bytes room ≡ some 9
+      → (length t ≡ tableSize) × (l ≤ 3) × (room < length (serveIf hub h t l (read s bytes .outcome) .reply))
+  refused-exactly = go (eqb (length t) tableSize) (ltb l lineCount) (ltb room (length (written h t l (read s bytes .outcome)))) refl refl refl
+    where
+      go : (a b c : Bool) → eqb (length t) tableSize ≡ a → ltb l lineCount ≡ b → ltb room (length (written h t l (read s bytes .outcome))) ≡ c
+          → refuseIf (not a) wrongTable (refuseIf (not b) wrongLine (refuseIf c shortRoom none)) ≡ some 9
+          → (length t ≡ tableSize) × (l ≤ 3) × (room < length (serveIf hub h t l (read s bytes .outcome) .reply))
+      go true true true x y z e = (
+        eqb-true (length t) tableSize x,
+        omega (arith, ltb-true l lineCount y),
+        rw (written-served h t l (read s bytes .outcome)) (ltb-true room (length (written h t l (read s bytes .outcome))) z),
+      )
+      go true true false x y z e = absurd (Option·none-ne-some 9 e)
+      go true false c x y z e = let k : _≡_ {A = ℕ} 8 9 = cc in absurd (omega arith)
+      go false b c x y z e = let k : _≡_ {A = ℕ} 7 9 = cc in absurd (omega arith)
+
+  -- a refused packet's error reply has 8 bytes
+  pub error-room : (n : ℕ) → length t ≡ tableSize → l ≤ 3 → read s bytes .outcome ≡ some (refused n) → feedRefusal h t s l bytes room ≡ refuseIf (ltb room 8) 9 none
+  unfolding respond bytesOf wire escape framed body xor.xorAll xor._⊕_
+  error-room n e k o = rw (eq-eqb (length t) tableSize e, lt-ltb l lineCount (omega arith), o)

@@ -16,9 +16,6 @@ pub const LINES: usize = 4;
 
 pub const PASSWORD: usize = 32;
 
-// The longest reply's bytes: room of this length is never refused 9 (specs/Longest.antt).
-pub const LONGEST_REPLY: usize = 212;
-
 // The hub's state: a line is logged in exactly if its number in `logins` is 1. The node table is lent to each call; the reading states are the
 // serial service's.
 pub struct Hub {
