@@ -11,14 +11,12 @@ use lib.Dec.{ltb, eqb}
 use borrow.Author.Tests.{lt-ltb, le-ltb, ltb-true, ltb-false, eq-eqb, eqb-true}
 use Rattle.frame.specs.Frame.{wire, maxData}
 use Rattle.frame.specs.Writer.{shortRoom, Writing, upTo, refused, noFit, Wire, write, writeAt, measured, Writes}
-use Rattle.frame.specs.WireLaws.{wire-short, numbered}
-use Rattle.nodes.specs.Table.{accepted, invalidNode, tableSize, Information, informationOf, informationData, information, informationSize, inUse, isTold, nothing, informed}
+use Rattle.frame.specs.WireLaws.{numbered}
+use Rattle.nodes.specs.Table.{accepted, invalidNode, tableSize, informationOf, information, informationSize, inUse, isTold, nothing, informed}
 use Rattle.nodes.specs.declared.Informed.{Informed}
 use Rattle.nodes.specs.TableLaws.{information-length, used-below}
-use Rattle.replies.specs.declared.Reply.{Reply}
-use Rattle.replies.specs.declared.Reply.the-variants as reply
-use Rattle.replies.specs.Messages.{Message, error, passwordEntered, passwordChanged, informationConfirmed, nodeInformation, variationSet, nameSet, orderAndPlacementSet, nodesRemoved, virginStateSet, modeSendConfirmed, sessionFinished, commandOf, dataOf, wireOf, bytesOf, aboutNode}
-use Rattle.replies.specs.Replies.{says, writeAll, isWritten}
+use Rattle.replies.specs.Messages.{Message, informationConfirmed, nodeInformation, dataOf, wireOf, bytesOf, aboutNode}
+use Rattle.replies.specs.Replies.{writeAll, isWritten}
 
 -- ---- bytes of replies
 
@@ -59,25 +57,7 @@ aboutNode-rule t n e = rw (eq-eqb (length t) tableSize e)
 
 -- ---- lengths
 
--- the most data bytes of a message other than 0210
-abbrev pub shortData : ℕ
-shortData = 3
-
-pub data-short : (m : Message) → ((i : Information) → m ≡ nodeInformation i → ⊥) → length (dataOf m) ≤ shortData
-data-short (error e) k = omega arith
-data-short (passwordEntered s) k = omega arith
-data-short (passwordChanged s) k = omega arith
-data-short (informationConfirmed s n) k = omega arith
-data-short (nodeInformation i) k = absurd (k i refl)
-data-short (variationSet s n) k = omega arith
-data-short (nameSet s n) k = omega arith
-data-short (orderAndPlacementSet s n) k = omega arith
-data-short (nodesRemoved n) k = omega arith
-data-short virginStateSet k = omega arith
-data-short (modeSendConfirmed x s) k = omega arith
-data-short (sessionFinished x) k = omega arith
-
--- a node of which is told has all its information
+-- what is told of a node is all its information
 pub told-length : (t : List ℕ) (n : ℕ) → isTold t n ≡ true → length (information t n) ≡ informationSize
 told-length t n e = go (eqb (length t) tableSize) (inUse t n) refl refl e
   where
@@ -112,54 +92,6 @@ aboutNode-fit t n = go (isTold t n) refl
         → Fit (cond b (informationConfirmed accepted n ∷ nodeInformation (informationOf t n) ∷ []) (informationConfirmed invalidNode n ∷ []))
     go true e = (omega arith, (omega (arith, told-length t n e), tt))
     go false e = (omega arith, tt)
-
--- those of every reply do
-pub says-fit : (t : List ℕ) (r : Reply) → Fit (says t r)
-says-fit t reply.Nothing = tt
-says-fit t (reply.Error e) = (omega arith, tt)
-says-fit t (reply.PasswordEntered s) = (omega arith, tt)
-says-fit t (reply.PasswordChanged s) = (omega arith, tt)
-says-fit t (reply.AboutNode n) = aboutNode-fit t n
-says-fit t (reply.VariationSet s n) = (omega arith, tt)
-says-fit t (reply.NameSet s n) = (omega arith, tt)
-says-fit t (reply.OrderAndPlacementSet s n) = (omega arith, tt)
-says-fit t (reply.NodesRemoved k) = (omega arith, tt)
-says-fit t reply.VirginStateSet = (omega arith, tt)
-says-fit t (reply.ModeSendConfirmed x s) = (omega arith, tt)
-says-fit t (reply.SessionFinished x) = (omega arith, tt)
-
--- a bound for every reply, each byte of its frames counted twice: 16 of 0201 and 260 of 0210
-abbrev pub maxReply : ℕ
-maxReply = 276
-
-one-short : (m : Message) → length (dataOf m) ≤ shortData → length (bytesOf (m ∷ [])) ≤ maxReply
-one-short m h = rw bytesOf-one (omega (arith, wire-short (commandOf m) (dataOf m)))
-
-aboutNode-short : (t : List ℕ) (n : ℕ) → length (bytesOf (aboutNode t n)) ≤ maxReply
-unfolding aboutNode information
-aboutNode-short t n = go (isTold t n) refl
-  where
-    go : (b : Bool) → isTold t n ≡ b
-        → length (bytesOf (cond b (informationConfirmed accepted n ∷ nodeInformation (informationOf t n) ∷ []) (informationConfirmed invalidNode n ∷ []))) ≤ maxReply
-    go true e =
-        rw (bytesOf-two, length-append)
-        (omega (arith, told-length t n e, wire-short 0x0201 (accepted ∷ n ∷ []), wire-short 0x0210 (informationData (informationOf t n))))
-    go false e = one-short (informationConfirmed invalidNode n) (omega arith)
-
-pub says-short : (t : List ℕ) (r : Reply) → length (bytesOf (says t r)) ≤ maxReply
-unfolding bytesOf
-says-short t reply.Nothing = omega arith
-says-short t (reply.Error e) = one-short (error e) (omega arith)
-says-short t (reply.PasswordEntered s) = one-short (passwordEntered s) (omega arith)
-says-short t (reply.PasswordChanged s) = one-short (passwordChanged s) (omega arith)
-says-short t (reply.AboutNode n) = aboutNode-short t n
-says-short t (reply.VariationSet s n) = one-short (variationSet s n) (omega arith)
-says-short t (reply.NameSet s n) = one-short (nameSet s n) (omega arith)
-says-short t (reply.OrderAndPlacementSet s n) = one-short (orderAndPlacementSet s n) (omega arith)
-says-short t (reply.NodesRemoved k) = one-short (nodesRemoved k) (omega arith)
-says-short t reply.VirginStateSet = one-short virginStateSet (omega arith)
-says-short t (reply.ModeSendConfirmed x s) = one-short (modeSendConfirmed x s) (omega arith)
-says-short t (reply.SessionFinished x) = one-short (sessionFinished x) (omega arith)
 
 -- ---- writing
 

@@ -21,7 +21,7 @@ use Rattle.feeds.specs.System.{refused as refusedFeed, serveIf, Called, call}
 use Rattle.feeds.specs.CallLaws.{call-refused, answer-refused}
 use Rattle.replies.specs.Messages.{error, bytesOf}
 use Rattle.rules.specs.declared.Hub.{Hub}
-use Rattle.rules.specs.Hub.{frameError, respond, serve, startRefusal, startBy, start, enrolRefusal, enrolBy, enrol, closeRefusal, closeBy, Closed, closedLine, close, Finish, refusedFinish, finishedOn, Finished, finishBy, finish, notice, withSlots, lineCount, passwordSize, written, refuseIf, wrongTable, wrongLine, shortRoom, feedRefusal, hub}
+use Rattle.rules.specs.Hub.{frameError, respond, respondIf, Reply, serve, startRefusal, startBy, start, enrolRefusal, enrolBy, enrol, closeRefusal, closeBy, Closed, closedLine, close, Finish, refusedFinish, finishedOn, Finished, finishBy, finish, notice, withSlots, lineCount, passwordSize, written, refuseIf, wrongTable, wrongLine, shortRoom, feedRefusal, hub}
 use Rattle.rules.specs.declared.CallAnswer.{CallAnswer}
 use Rattle.rules.specs.declared.FinishAnswer.{FinishAnswer}
 use Rattle.rules.specs.Answers.{refusalOf, finishOf}
@@ -80,11 +80,15 @@ pub feed-again : (h : Hub) (t : List ℕ) (s : State) (l : ℕ) (bytes : List �
 feed-again h t s l bytes room n e k other more =
     ap (λ (c : Called hub). call hub (c .hub) (c .table) (c .state) k other more) (call-refused hub h t s l bytes room n (answer-refused hub h t s l bytes room n e))
 
--- what a feed would write is what its outcome is answered with
-pub written-served : (h : Hub) (t : List ℕ) (l : ℕ) (o : Option Outcome) → serveIf hub h t l o .reply ≡ written h t l o
+-- what the hub makes of a feed is how its outcome is served; what it would write is what the outcome is answered with
+pub served : (h : Hub) (t : List ℕ) (l : ℕ) (o : Option Outcome)
+    → serveIf hub h t l o ≡ record { hub = respondIf h t l o .hub; table = respondIf h t l o .table; reply = written h t l o }
 unfolding serveIf serve bytesOf
-written-served h t l none = refl
-written-served h t l (some o) = refl
+served h t l none = refl
+served h t l (some o) = refl
+
+pub written-served : (h : Hub) (t : List ℕ) (l : ℕ) (o : Option Outcome) → serveIf hub h t l o .reply ≡ written h t l o
+written-served h t l o = ap (λ (x : Reply). x .reply) (served h t l o)
 
 -- ---- when a call is refused, in the order of the numbers
 

@@ -2,38 +2,30 @@
 use Prim.Native.Nat.{ℕ, _≤_, _<_}
 use mathlib.Core.Path.{_≡_, refl, sym, ap, _∙_}
 use mathlib.Core.List.{List, _++_}
-use mathlib.Core.Option.{Option, none, some}
+use mathlib.Core.Option.{some}
 use native.Mathlib.Omega.{arith}
 use lib.ListN.{length, drop}
 use Rattle.line.specs.declared.Reading.{Reading}
 use Rattle.frame.specs.declared.FrameOutcome.{FrameOutcome}
 use Rattle.frame.specs.declared.FrameOutcome.the-variants as told-as
 use Rattle.frame.specs.declared.FrameAnswer.{FrameAnswer}
-use Rattle.frame.specs.Frame.{Outcome}
 use Rattle.frame.specs.Reader.{taken, read}
 use Rattle.frame.specs.Answers as outcome
 use Rattle.nodes.specs.Table.{tableSize}
 use Rattle.replies.specs.Messages.{bytesOf}
 use Rattle.replies.specs.Replies.{says}
-use Rattle.feeds.specs.System.{told, call, decided, settled, serveIf}
+use Rattle.feeds.specs.System.{told, call, decided, settled}
 use Rattle.feeds.specs.CallLaws.{call-refused}
 use Rattle.rules.specs.declared.Hub.{Hub}
 use Rattle.rules.specs.declared.CallRefusal.{CallRefusal}
 use Rattle.rules.specs.declared.CallRefusal.the-variants as cause
 use Rattle.rules.specs.declared.FeedAnswer.the-variants as feed
-use Rattle.rules.specs.Hub.{respond, respondIf, serve, written, feedRefusal, hub}
-use Rattle.rules.specs.Refusals.{refused-room, not-refused}
+use Rattle.rules.specs.Hub.{respond, respondIf, written, feedRefusal, hub}
+use Rattle.rules.specs.Refusals.{served, refused-room, not-refused}
 use Rattle.rules.specs.Answers.{number}
 use Rattle.rules.specs.Promises.{Feeds}
 use Rattle.requests.specs.declared.Decided.{Decided}
 use Rattle.requests.specs.Answers.{dataIn, storedBy, Decides}
-
--- serving what was read is what the hub makes of it, as bytes
-served : (h : Hub) (t : List ℕ) (l : ℕ) (o : Option Outcome)
-    → serveIf hub h t l o ≡ record { hub = respondIf h t l o .hub; table = respondIf h t l o .table; reply = written h t l o }
-unfolding serveIf serve bytesOf
-served h t l none = refl
-served h t l (some o) = refl
 
 -- where there is no frame, nothing is stored; the definition's table stays then
 pub stored-by : (h : Hub) (t : List ℕ) (l : ℕ) (o : FrameOutcome) (bs : List ℕ) (r : Decided)
