@@ -109,7 +109,7 @@ pub record Demand1 : Type 0 where
   pub short-feed : {m v : Memory} {g : Lent} {o : Got hub} → Made m (feed g) (fed o) v → length (m .table) ≡ tableSize → g .line ≤ 3 → length (g .room) < length (toWrite m g)
       → refusalTold (fed o) ≡ some 9
   pub finish-short : {m v : Memory} {x : ℕ} {room : List ℕ} {o : FinishedSession} → Made m (finish x room) (finished o) v → refusalTold (finished o) ≡ some 9 → length room < length (notice x)
-  pub short-finish : {m v : Memory} {x : ℕ} {room : List ℕ} {o : FinishedSession} → Made m (finish x room) (finished o) v → anySlot (sessions.isNumbered x) (m .hub .slots) ≡ true
+  pub short-finish : {m v : Memory} {x : ℕ} {room : List ℕ} {o : FinishedSession} → Made m (finish x room) (finished o) v → anySlot (sessions.isNumbered x) (sessions.slotsOf (m .hub .slots)) ≡ true
       → length room < length (notice x) → refusalTold (finished o) ≡ some 9
   -- "A refused call changes neither the hub nor lent memory;"
   pub untouched : {m v : Memory} {s : Step} {o : Return} → Made m s o v → (n : ℕ) → refusalTold o ≡ some n → Untouched m s o v
@@ -320,14 +320,14 @@ made-short-feed {m} {v} {g} x size line k =
 
 made-finish-short : {m v : Memory} {x : ℕ} {room : List ℕ} {o : FinishedSession} → Made m (finish x room) (finished o) v → refusalTold (finished o) ≡ some 9 → length room < length (notice x)
 unfolding refusal
-made-finish-short {m} {v} {x} {room} y e = go (anySlot (sessions.isNumbered x) (m .hub .slots)) (ltb (length room) (length (notice x))) refl (sym (made-refusal y) ∙ e)
+made-finish-short {m} {v} {x} {room} y e = go (anySlot (sessions.isNumbered x) (sessions.slotsOf (m .hub .slots))) (ltb (length room) (length (notice x))) refl (sym (made-refusal y) ∙ e)
   where
     go : (a b : Bool) → ltb (length room) (length (notice x)) ≡ b → refuseIf (not a) sessions.notOpen (refuseIf b shortRoom none) ≡ some 9 → length room < length (notice x)
     go true true q z = ltb-true (length room) (length (notice x)) q
     go true false q z = absurd (Option·none-ne-some 9 z)
     go false b q z = let k : _≡_ {A = ℕ} 13 9 = cc in absurd (omega arith)
 
-made-short-finish : {m v : Memory} {x : ℕ} {room : List ℕ} {o : FinishedSession} → Made m (finish x room) (finished o) v → anySlot (sessions.isNumbered x) (m .hub .slots) ≡ true
+made-short-finish : {m v : Memory} {x : ℕ} {room : List ℕ} {o : FinishedSession} → Made m (finish x room) (finished o) v → anySlot (sessions.isNumbered x) (sessions.slotsOf (m .hub .slots)) ≡ true
     → length room < length (notice x) → refusalTold (finished o) ≡ some 9
 unfolding refusal
 made-short-finish {m} {v} {x} {room} y o k = made-refusal y ∙ rw (o, lt-ltb (length room) (length (notice x)) k)
@@ -440,7 +440,7 @@ steps-one {m} {e} {ss} x n p = rw (← ap (λ (w : World). w .hub) (steps-after 
 
 -- nobody holds anything in a fresh hub
 fresh-one : (p : List ℕ) (n : ℕ) → OneAtMost n (freshHub p)
-fresh-one p n = free n slotCount
+fresh-one p n = free n sessions.sessionsSize
 
 start-one : {m v : Memory} {p : List ℕ} {o : Return} → Made m (start p) o v → refusalTold o ≡ none → (n : ℕ) → OneAtMost n (v .hub)
 unfolding refusalTold

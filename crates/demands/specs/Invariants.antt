@@ -2,6 +2,7 @@
 use Prim.Native.Nat.{ℕ, _≤_}
 use mathlib.Core.Path.{_≡_}
 use mathlib.Core.List.{List}
+use Rattle.sessions.specs.Sessions.{slotsOf}
 use Rattle.sessions.specs.Holders.{holders}
 use Rattle.rules.specs.declared.Hub.{Hub}
 
@@ -13,4 +14,4 @@ pub record Unchanged (h : Hub) (t : List ℕ) (k : Hub) (u : List ℕ) : Type 0 
 
 -- node n is in one open session at the most
 abbrev pub OneAtMost : ℕ → Hub → Type 0
-OneAtMost n h = holders n (h .slots) ≤ 1
+OneAtMost n h = holders n (slotsOf (h .slots)) ≤ 1

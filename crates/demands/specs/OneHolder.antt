@@ -8,9 +8,8 @@ use lib.ListN.{length, getD, replicate}
 use lib.Dec.{ltb}
 use Rattle.frame.specs.Frame.{Outcome, frame, refused}
 use Rattle.nodes.specs.Table as table
-use Rattle.sessions.specs.declared.Slot.{Slot}
 use Rattle.sessions.specs.Sessions as sessions
-use Rattle.sessions.specs.Holders.{holders, close-holders, modeSend-holders, finish-holders, leftBy}
+use Rattle.sessions.specs.Holders.{holders, close-holders, closeAll-holders, modeSend-holders, finish-holders, leftBy}
 use Rattle.directory.specs.Lookup as directory
 use Rattle.feeds.specs.System as feeds
 use Rattle.feeds.specs.SystemLaws.{Fed, barred, done, fed}
@@ -28,11 +27,9 @@ module _ (n : ℕ) where
   abbrev Kept : Response → Type 0
   Kept r = One (r .hub)
 
-  -- nobody holds anything in free slots
-  pub free : (k : ℕ) → holders n (replicate k sessions.closedSlot) ≤ 1
-  unfolding holders
-  free zero = omega arith
-  free (suc k) = omega (arith, free k)
+  -- nobody holds anything where all sessions are closed
+  pub free : (k : ℕ) → holders n (sessions.slotsOf (replicate k 0)) ≤ 1
+  free k = omega (arith, closeAll-holders n k)
 
   entered : (h : Hub) (l : ℕ) (d : List ℕ) → One h → One (enter h l d .hub)
   unfolding enter
@@ -46,7 +43,7 @@ module _ (n : ℕ) where
   unfolding removeNodes virginState modeSend
   request-one h t l c d p =
       each-request Kept h t l c d (λ e. entered h l d p) (changed h _ _ p) p p p p
-      (omega (arith, close-holders n (sessions.holdsRemoved t d) (h .slots))) (omega (arith, close-holders n (λ (s : Slot). true) (h .slots)))
+      (omega (arith, close-holders n (sessions.holdsRemoved t d) sessions.slotCount (h .slots))) (free (length (h .slots)))
       (modeSend-holders n (h .slots) t l (sessions.modeSendOf d) p) p
 
   pub serve-one : (h : Hub) (t : List ℕ) (l : ℕ) (o : Outcome) → One h → One (serve h t l o .hub)
@@ -69,16 +66,16 @@ module _ (n : ℕ) where
     where
       go : (o : Option ℕ) → One (startBy o (w .hub) (w .table) x .hub)
       go (some m) = p
-      go none = free sessions.slotCount
+      go none = free sessions.sessionsSize
   call-one w (enrol k type) p = p
   call-one w (close l spare) p = go (closeRefusal l)
     where
       go : (o : Option ℕ) → One (closeBy o (w .hub) (getD (w .states) l spare) l .hub)
       go (some m) = p
-      go none = omega (arith, close-holders n (sessions.isOn l) (w .hub .slots))
+      go none = omega (arith, close-holders n (sessions.isOn l) sessions.slotCount (w .hub .slots))
   call-one w (finish x room) p = go (sessions.finish (w .hub .slots) x) (ltb room (length (notice x))) (finish-holders n (w .hub .slots) x)
     where
-      go : (o : Option sessions.Finished) (b : Bool) → holders n (leftBy o (w .hub .slots)) ≤ holders n (w .hub .slots) → One (finishBy o b (w .hub) x .hub)
+      go : (o : Option sessions.Finished) (b : Bool) → holders n (sessions.slotsOf (leftBy o (w .hub .slots))) ≤ holders n (sessions.slotsOf (w .hub .slots)) → One (finishBy o b (w .hub) x .hub)
       go none b h = p
       go (some f) true h = p
       go (some f) false h = omega arith

@@ -11,7 +11,7 @@ use Rattle.line.specs.declared.Reading.{Reading}
 use Rattle.frame.specs.Reader.{taken}
 use Rattle.sessions.specs.Search.{any}
 use Rattle.sessions.specs.Sessions as sessions
-use Rattle.sessions.specs.Sessions.{isNumbered}
+use Rattle.sessions.specs.Sessions.{isNumbered, slotsOf}
 use Rattle.feeds.specs.System as system
 use Rattle.feeds.specs.Marks.{outcomeOf}
 use Rattle.feeds.specs.Service as service
@@ -80,7 +80,7 @@ refusal m (start p) = rules.startRefusal (m .table) p
 refusal m (enrol n type) = rules.enrolRefusal (m .table) n
 refusal m (close l spare) = rules.closeRefusal l
 refusal m (finish x room) =
-    rules.refuseIf (not (any (isNumbered x) (m .hub .slots))) sessions.notOpen (rules.refuseIf (ltb (length room) (length (rules.notice x))) rules.shortRoom none)
+    rules.refuseIf (not (any (isNumbered x) (slotsOf (m .hub .slots)))) sessions.notOpen (rules.refuseIf (ltb (length room) (length (rules.notice x))) rules.shortRoom none)
 refusal m (feed g) = rules.feedRefusal (m .hub) (m .table) (taken (recordFor hub m g)) (g .line) (g .bytes) (length (g .room))
 
 -- the one that finish tells, and feed

@@ -76,7 +76,7 @@ unfolding refusal refusalTold finishTells feedTells sessions.finish system.call 
 made-refusal (starts {m} {p} a x) = ap (λ (z : rules.Started). z .refusal) x ∙ start-refusal (m .hub) (m .table) p
 made-refusal (enrols {m} {n} {type} a x) = ap (λ (z : rules.Enrolled). z .refusal) x ∙ enrol-refusal (m .table) n type
 made-refusal (closes {m} {l} {spare} x) = x .refusal ∙ close-refusal (m .hub) (taken (lineRecord m l spare)) l
-made-refusal (finishes {m} {x} {room} y) = ap finishTells (y .answer) ∙ go (ltb (length room) (length (rules.notice x))) (any (sessions.isNumbered x) (m .hub .slots)) _
+made-refusal (finishes {m} {x} {room} y) = ap finishTells (y .answer) ∙ go (ltb (length room) (length (rules.notice x))) (any (sessions.isNumbered x) (sessions.slotsOf (m .hub .slots))) _
   where
     go : (a b : Bool) (f : sessions.Finished)
         → finishTells (rules.finishBy (cond b (some f) none) a (m .hub) x .answer) ≡ rules.refuseIf (not b) sessions.notOpen (rules.refuseIf a rules.shortRoom none)

@@ -34,8 +34,8 @@ fn closed_line(hub: Hub, line: u8) -> Hub
     ensures { λ r. ⌜ r ≡ closedLine hub line ⌝ }
 {
     let password = hub.password;
-    let opened = hub.slots;
-    let slots = sessions::close_line(opened, line);
+    let mut slots = hub.slots;
+    sessions::close_line(&mut slots, line);
     let k = line as usize;
     let mut logins = hub.logins;
     logins[k] = 0;

@@ -1,8 +1,6 @@
 // The host's calls: the hub before any start, start, enrol, finish a session (document 01, "What the commands do").
 // The hub goes in and out by value; the node table and the reply room are lent.
 ghost use mathlib.Core.Path.{_≡_};
-ghost use mathlib.Core.Option.{some};
-ghost use Rattle.sessions.specs.Sessions.{finish};
 ghost use Rattle.rules.specs.Hub.{freshHub, firstHub, withSlots};
 ghost use Rattle.rules.specs.Promises.{Starts, Enrols, Finishes};
 ghost use Rattle.hub.specs.Parts.{refusedFinish};
@@ -15,7 +13,6 @@ use rules::Finished;
 use rules::Hub;
 use rules::Started;
 use sessions::Owner;
-use sessions::Slot;
 
 // The hub before any start.
 pub fn first() -> Hub
@@ -28,11 +25,10 @@ pub fn first() -> Hub
 fn fresh(password: [u8; rules::PASSWORD]) -> Hub
     ensures { λ r. ⌜ r ≡ freshHub password ⌝ }
 {
-    let slots = sessions::none();
     Hub {
         password: password,
         logins: [0; rules::LINES],
-        slots: slots,
+        slots: [0; sessions::TABLE],
     }
 }
 
@@ -79,17 +75,28 @@ pub fn enrol(table: &mut [u8], node: u8, kind: u16) -> CallAnswer
     CallAnswer::Done
 }
 
-// A session is finished: frame 0304 with its number goes to its line.
+// A session is finished: frame 0304 with its number goes to its line. It is written, if there is room for it; then the session is closed.
 pub fn finish(hub: Hub, session: u16, room: &mut [u8]) -> Finished
     ensures { λ r. ⌜ Finishes hub session (now (room .entry)) (r .answer) (r .hub) (now (room .exit)) ⌝ }
 {
-    let opened = hub.slots;
-    let ended = sessions::finish(opened, session);
-    let told = ended.told;
-    let left = ended.slots;
-    match told {
+    let mut slots = hub.slots;
+    match sessions::line_of(&slots, session) {
         Owner::NotOpen => refused(hub, CallRefusal::NotOpen),
-        Owner::Line(line) => notify(hub, left, line, session, room),
+        Owner::Line(line) => {
+            let nothing: [u8; 0] = [];
+            match replies::write(room, Reply::SessionFinished(session), &nothing) {
+                Written::Length(len) => {
+                    sessions::finish(&mut slots, session);
+                    let next = with_slots(hub, slots);
+                    Finished {
+                        answer: FinishAnswer::Finished { line, len },
+                        hub: next,
+                    }
+                }
+                Written::ShortRoom => refused(hub, CallRefusal::ShortRoom),
+                Written::LongData => refused(hub, CallRefusal::ShortRoom),
+            }
+        }
     }
 }
 
@@ -102,33 +109,8 @@ fn refused(hub: Hub, refusal: CallRefusal) -> Finished
     }
 }
 
-// The notice is written, if there is room for it; then the session is closed.
-fn notify(
-    hub: Hub,
-    left: [Slot; sessions::SLOTS],
-    line: u8,
-    session: u16,
-    room: &mut [u8],
-) -> Finished
-    requires { ⌜ finish (hub .slots) session ≡ some (record { line = line; slots = left }) ⌝ }
-    ensures { λ r. ⌜ Finishes hub session (now (room .entry)) (r .answer) (r .hub) (now (room .exit)) ⌝ }
-{
-    let nothing: [u8; 0] = [];
-    match replies::write(room, Reply::SessionFinished(session), &nothing) {
-        Written::Length(len) => {
-            let next = with_slots(hub, left);
-            Finished {
-                answer: FinishAnswer::Finished { line, len },
-                hub: next,
-            }
-        }
-        Written::ShortRoom => refused(hub, CallRefusal::ShortRoom),
-        Written::LongData => refused(hub, CallRefusal::ShortRoom),
-    }
-}
-
 // The hub with other sessions.
-fn with_slots(hub: Hub, slots: [Slot; sessions::SLOTS]) -> Hub
+fn with_slots(hub: Hub, slots: [u8; sessions::TABLE]) -> Hub
     ensures { λ r. ⌜ r ≡ withSlots hub slots ⌝ }
 {
     let password = hub.password;

@@ -1,19 +1,21 @@
-// The requests: a frame on a line is judged, and what is answered to it is decided, with the hub that it leaves (document 01, "The command
-// directory", "What the commands do"). Nothing lent is changed here. Reply and hub are the definition's: crate rules, specs/Hub.antt: respond.
-ghost use Prim.Native.Nat.{_+_, _<_};
+// The requests: a frame on a line is judged, and what is answered to it is decided (document 01, "The command directory", "What the commands
+// do"). Nothing is changed here. The reply is the definition's, and so are hub and table once it is carried out: crate rules, specs/Hub.antt:
+// respond.
 ghost use mathlib.Core.Path.{_≡_};
+ghost use Prim.Native.Nat.{ℕ};
+ghost use mathlib.Core.List.{List};
 ghost use mathlib.Core.Option.{none};
 ghost use lib.ListN.{length};
 ghost use Rattle.frame.specs.Frame.{frame};
-ghost use Rattle.sessions.specs.Sessions.{closeAll, modeSendSize};
+ghost use Rattle.nodes.specs.Table.{nodeStatus};
+ghost use Rattle.sessions.specs.Sessions.{modeSendSize, modeSendOf};
 ghost use Rattle.directory.specs.Lookup.{verdict};
-ghost use Rattle.rules.specs.Hub.{lineCount, passwordSize, request, mayAsk, respond};
-ghost use Rattle.requests.specs.Answers.{Decides, failed, entered, changed, varied, named, placed, removed, zeroed, sent};
-use crate::Decided;
+ghost use Rattle.rules.specs.Hub.{mayAsk, request, respond};
+ghost use Rattle.replies.specs.declared.Reply.the-variants.{NameSet, OrderAndPlacementSet};
+ghost use Rattle.requests.specs.Answers.{hubOf, Decides, passwordStatus, varied, confirmed};
 use directory::Verdict;
 use replies::Reply;
-use rules::Hub;
-use sessions::Slot;
+use sessions::ModeSend;
 
 // The request that a line may ask before it is logged in.
 const PASSWORD_ENTER: u16 = 0x3000;
@@ -25,31 +27,32 @@ pub(crate) const FRAME_ERROR: u8 = 2;
 
 const NOT_LOGGED_IN: u8 = 12;
 
+// The statuses of the password requests.
+pub(crate) const CORRECT: u8 = 0;
+
+const INCORRECT: u8 = 1;
+
 // The order of document 01: command unknown, length outside its range, not logged in, not served.
-pub(crate) fn decide(hub: Hub, table: &[u8], line: u8, command: u16, payload: &[u8]) -> Decided
-    requires { ⌜ line < lineCount ⌝ }
-    ensures { λ r. ⌜ Decides (respond hub (now (table .entry)) line (frame command (now (payload .entry)))) (now (table .entry)) (now (payload .entry)) r ⌝ }
+pub(crate) fn decide(
+    password: &[u8; rules::PASSWORD],
+    logins: &[u8; rules::LINES],
+    slots: &[u8; sessions::TABLE],
+    table: &[u8],
+    line: u8,
+    command: u16,
+    payload: &[u8],
+) -> Reply
+    ensures { λ r. ⌜ Decides (respond (hubOf (now (password .entry)) (now (logins .entry)) (now (slots .entry))) (now (table .entry)) line (frame command (now (payload .entry)))) (hubOf (now (password .entry)) (now (logins .entry)) (now (slots .entry))) (now (table .entry)) line (now (payload .entry)) r ⌝ }
 {
     match directory::judge(command, payload.len()) {
-        Verdict::Unknown => failure(hub, UNKNOWN_COMMAND),
-        Verdict::WrongLength => failure(hub, FRAME_ERROR),
+        Verdict::Unknown => Reply::Error(UNKNOWN_COMMAND),
+        Verdict::WrongLength => Reply::Error(FRAME_ERROR),
         Verdict::Fits => {
-            let logins = hub.logins;
-            if may_ask(logins, line, command) {
-                return request(hub, table, line, command, payload);
+            if may_ask(*logins, line, command) {
+                return request(password, slots, table, line, command, payload);
             }
-            failure(hub, NOT_LOGGED_IN)
+            Reply::Error(NOT_LOGGED_IN)
         }
-    }
-}
-
-// The error frame with one byte; the hub stays.
-pub(crate) fn failure(hub: Hub, error: u8) -> Decided
-    ensures { λ r. ⌜ r ≡ failed hub error ⌝ }
-{
-    Decided {
-        reply: Reply::Error(error),
-        hub: hub,
     }
 }
 
@@ -62,133 +65,81 @@ fn may_ask(logins: [u8; rules::LINES], line: u8, command: u16) -> bool
     command == PASSWORD_ENTER
 }
 
-// A request by its number.
-fn request(hub: Hub, table: &[u8], line: u8, command: u16, payload: &[u8]) -> Decided
-    requires { ⌜ (line < lineCount) × (verdict command (length (now payload)) ≡ none) ⌝ }
-    ensures { λ r. ⌜ Decides (request hub (now (table .entry)) line command (now (payload .entry))) (now (table .entry)) (now (payload .entry)) r ⌝ }
+// A request by its number. SceneDeleted is 0.
+fn request(
+    password: &[u8; rules::PASSWORD],
+    slots: &[u8; sessions::TABLE],
+    table: &[u8],
+    line: u8,
+    command: u16,
+    payload: &[u8],
+) -> Reply
+    requires { ⌜ verdict command (length (now payload)) ≡ none ⌝ }
+    ensures { λ r. ⌜ ((ls : List ℕ) → Decides (request (hubOf (now (password .entry)) ls (now (slots .entry))) (now (table .entry)) line command (now (payload .entry))) (hubOf (now (password .entry)) ls (now (slots .entry))) (now (table .entry)) line (now (payload .entry)) r) ⌝ }
 {
     match command {
-        PASSWORD_ENTER => enter(hub, line, payload),
-        0x3002 => change(hub, payload),
-        0x0200 => Decided {
-            reply: Reply::AboutNode(payload[0]),
-            hub: hub,
-        },
-        0x0206 => set_variation(hub, table, payload),
-        0x0208 => set_name(hub, table, payload[0]),
-        0x020D => set_order_and_placement(hub, table, payload[0]),
-        0x0106 => remove_nodes(hub, table, payload),
-        0x0108 => virgin_state(hub),
-        0x0320 => mode_send(hub, table, line, payload),
-        _ => failure(hub, UNKNOWN_COMMAND),
+        PASSWORD_ENTER => Reply::PasswordEntered(password_status(password, payload)),
+        0x3002 => Reply::PasswordChanged(password_status(password, &payload[0..rules::PASSWORD])),
+        0x0200 => Reply::AboutNode(payload[0]),
+        0x0206 => set_variation(table, payload),
+        0x0208 => set_name(table, payload[0]),
+        0x020D => set_order_and_placement(table, payload[0]),
+        0x0106 => Reply::NodesRemoved(0),
+        0x0108 => Reply::VirginStateSet,
+        0x0320 => mode_send(slots, table, payload),
+        _ => Reply::Error(UNKNOWN_COMMAND),
     }
 }
 
-fn enter(hub: Hub, line: u8, payload: &[u8]) -> Decided
-    requires { ⌜ (length (now payload) ≡ passwordSize) × (line < lineCount) ⌝ }
-    ensures { λ r. ⌜ r ≡ entered hub line (now (payload .entry)) ⌝ }
+// All bytes are compared with the password.
+fn password_status(password: &[u8], given: &[u8]) -> u8
+    ensures { λ r. ⌜ r ≡ passwordStatus (now (password .entry)) (now (given .entry)) ⌝ }
 {
-    let given = crate::passwords::password_at(payload, 0);
-    let entered = crate::passwords::enter(hub, line, given);
-    let next = entered.hub;
-    Decided {
-        reply: Reply::PasswordEntered(entered.status),
-        hub: next,
+    if memory::is_same(given, password) {
+        return CORRECT;
     }
+    INCORRECT
 }
 
-fn change(hub: Hub, payload: &[u8]) -> Decided
-    requires { ⌜ length (now payload) ≡ passwordSize + passwordSize ⌝ }
-    ensures { λ r. ⌜ r ≡ changed hub (now (payload .entry)) ⌝ }
-{
-    let old = crate::passwords::password_at(payload, 0);
-    let new = crate::passwords::password_at(payload, rules::PASSWORD);
-    let entered = crate::passwords::change(hub, old, new);
-    let next = entered.hub;
-    Decided {
-        reply: Reply::PasswordChanged(entered.status),
-        hub: next,
-    }
-}
-
-fn set_variation(hub: Hub, table: &[u8], payload: &[u8]) -> Decided
+fn set_variation(table: &[u8], payload: &[u8]) -> Reply
     requires { ⌜ length (now payload) ≡ 2 ⌝ }
-    ensures { λ r. ⌜ r ≡ varied hub (now (table .entry)) (now (payload .entry)) ⌝ }
+    ensures { λ r. ⌜ r ≡ varied (now (table .entry)) (now (payload .entry)) ⌝ }
 {
     let node = payload[0];
     let status = nodes::variation_status(table, node, payload[1]);
-    Decided {
-        reply: Reply::VariationSet { status, node },
-        hub: hub,
-    }
+    Reply::VariationSet { status, node }
 }
 
-fn set_name(hub: Hub, table: &[u8], node: u8) -> Decided
-    ensures { λ r. ⌜ r ≡ named hub (now (table .entry)) node ⌝ }
+fn set_name(table: &[u8], node: u8) -> Reply
+    ensures { λ r. ⌜ r ≡ NameSet (nodeStatus (now (table .entry)) node) node ⌝ }
 {
     let status = nodes::status(table, node);
-    Decided {
-        reply: Reply::NameSet { status, node },
-        hub: hub,
-    }
+    Reply::NameSet { status, node }
 }
 
-fn set_order_and_placement(hub: Hub, table: &[u8], node: u8) -> Decided
-    ensures { λ r. ⌜ r ≡ placed hub (now (table .entry)) node ⌝ }
+fn set_order_and_placement(table: &[u8], node: u8) -> Reply
+    ensures { λ r. ⌜ r ≡ OrderAndPlacementSet (nodeStatus (now (table .entry)) node) node ⌝ }
 {
     let status = nodes::status(table, node);
-    Decided {
-        reply: Reply::OrderAndPlacementSet { status, node },
-        hub: hub,
-    }
+    Reply::OrderAndPlacementSet { status, node }
 }
 
-// SceneDeleted is 0.
-fn remove_nodes(hub: Hub, table: &[u8], bits: &[u8]) -> Decided
-    ensures { λ r. ⌜ r ≡ removed hub (now (table .entry)) (now (bits .entry)) ⌝ }
-{
-    let slots = hub.slots;
-    let left = sessions::close_removed(slots, table, bits);
-    let next = crate::passwords::with_slots(hub, left);
-    Decided {
-        reply: Reply::NodesRemoved(0),
-        hub: next,
-    }
-}
-
-fn virgin_state(hub: Hub) -> Decided
-    ensures { λ r. ⌜ r ≡ zeroed hub ⌝ }
-{
-    let slots = hub.slots;
-    let left = close_all(slots);
-    let next = crate::passwords::with_slots(hub, left);
-    Decided {
-        reply: Reply::VirginStateSet,
-        hub: next,
-    }
-}
-
-fn close_all(slots: [Slot; sessions::SLOTS]) -> [Slot; sessions::SLOTS]
-    ensures { λ r. ⌜ r ≡ closeAll slots ⌝ }
-{
-    sessions::none()
-}
-
-fn mode_send(hub: Hub, table: &[u8], line: u8, payload: &[u8]) -> Decided
+fn mode_send(slots: &[u8; sessions::TABLE], table: &[u8], payload: &[u8]) -> Reply
     requires { ⌜ length (now payload) ≡ modeSendSize ⌝ }
-    ensures { λ r. ⌜ r ≡ sent hub (now (table .entry)) line (now (payload .entry)) ⌝ }
+    ensures { λ r. ⌜ r ≡ confirmed (now (slots .entry)) (now (table .entry)) (now (payload .entry)) ⌝ }
 {
-    let slots = hub.slots;
+    let request = mode_send_of(payload);
+    let session = request.session;
+    let status = sessions::status(slots, table, request);
+    Reply::ModeSendConfirmed { session, status }
+}
+
+// What the data of a mode send ask for.
+pub(crate) fn mode_send_of(payload: &[u8]) -> ModeSend
+    requires { ⌜ length (now payload) ≡ modeSendSize ⌝ }
+    ensures { λ r. ⌜ r ≡ modeSendOf (now (payload .entry)) ⌝ }
+{
     let mut asked = [0u8; sessions::MODE_SEND];
     memory::copy(&mut asked, 0, payload);
-    let request = sessions::mode_send_of(asked);
-    let session = request.session;
-    let told = sessions::mode_send(slots, table, line, request);
-    let left = told.slots;
-    let status = told.status;
-    let next = crate::passwords::with_slots(hub, left);
-    Decided {
-        reply: Reply::ModeSendConfirmed { session, status },
-        hub: next,
-    }
+    sessions::mode_send_of(asked)
 }

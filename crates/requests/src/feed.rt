@@ -6,10 +6,11 @@ ghost use mathlib.Core.Path.{_≡_};
 ghost use lib.ListN.{length};
 ghost use Rattle.frame.specs.Line.{limit};
 ghost use Rattle.frame.specs.Answers.{told, Within};
+ghost use Rattle.nodes.specs.Table.{tableSize};
 ghost use Rattle.rules.specs.Hub.{lineCount, respondIf};
 ghost use Rattle.rules.specs.Promises.{Feeds};
-ghost use Rattle.requests.specs.Answers.{readingAt, refusedFeed, fedOf, dataIn, storedBy, Decides, Enough};
-use crate::Decided;
+ghost use Rattle.requests.specs.Answers.{readingAt, refusedFeed, toldFeed, fedOf, hubOf, dataLength, dataIn, Decides};
+use frame::FrameAt;
 use frame::FrameOutcome;
 use frame::Written;
 use line::Place;
@@ -65,26 +66,65 @@ pub fn call_in(
     if rules::LINES <= line as usize {
         return refused(hub, place, CallRefusal::WrongLine);
     }
+    serve(hub, table, held, place, line, bytes, room)
+}
+
+// A feed with the right table, on one of the lines.
+fn serve(
+    hub: Hub,
+    table: &mut [u8],
+    held: &mut [u8; line::LIMIT],
+    place: Place,
+    line: u8,
+    bytes: &[u8],
+    room: &mut [u8],
+) -> FedAt
+    requires { ⌜ (length (now table) ≡ tableSize) × (line < lineCount) ⌝ }
+    ensures { λ r. ⌜ Feeds hub (now (table .entry)) (readingAt (now (held .entry)) place) line (now (bytes .entry)) (now (room .entry)) (r .answer) (r .hub) (now (table .exit)) (readingAt (now (held .exit)) (r .place)) (now (room .exit)) ⌝ }
+{
     let mut tried = *held;
     let read = frame::read_in(&mut tried, place, bytes);
-    let used = read.used;
     let outcome = read.outcome;
-    let after = read.place;
-    let decided = decide_outcome(hub, table, line, outcome, &tried);
-    let reply = decided.reply;
+    let mut password = hub.password;
+    let mut logins = hub.logins;
+    let mut slots = hub.slots;
+    let reply = decide_outcome(&password, &logins, &slots, table, line, outcome, &tried);
     match replies::write(room, reply, table) {
         Written::Length(len) => {
-            store_outcome(table, reply, outcome, &tried);
+            let end = frame::HEAD + data_len(outcome);
+            crate::effects::carry_out(
+                &mut password,
+                &mut logins,
+                &mut slots,
+                table,
+                line,
+                reply,
+                &tried[frame::HEAD..end],
+            );
             *held = tried;
-            let next = decided.hub;
-            FedAt {
-                answer: FeedAnswer::Told { used, outcome, len },
-                hub: next,
-                place: after,
-            }
+            let next = Hub {
+                password,
+                logins,
+                slots,
+            };
+            told(read, len, next)
         }
         Written::ShortRoom => refused(hub, place, CallRefusal::ShortRoom),
         Written::LongData => refused(hub, place, CallRefusal::ShortRoom),
+    }
+}
+
+// What was read, with the reply's length and the hub that is left.
+fn told(read: FrameAt, len: usize, hub: Hub) -> FedAt
+    ensures { λ r. ⌜ r ≡ toldFeed read len hub ⌝ }
+{
+    let used = read.used;
+    let outcome = read.outcome;
+    let place = read.place;
+    FedAt {
+        answer: FeedAnswer::Told { used, outcome, len },
+        hub: hub,
+        place: place,
     }
 }
 
@@ -115,38 +155,42 @@ fn fed_of(bytes: [u8; line::LIMIT], fed: FedAt) -> FedByValue
 }
 
 // What is answered to what was read, if it came to an outcome.
-fn decide_outcome(hub: Hub, table: &[u8], line: u8, outcome: FrameOutcome, held: &[u8]) -> Decided
-    requires { ⌜ (line < lineCount) × (length (now held) ≡ limit) × Within outcome ⌝ }
-    ensures { λ r. ⌜ Decides (respondIf hub (now (table .entry)) line (told outcome (now (held .entry)))) (now (table .entry)) (dataIn outcome (now (held .entry))) r ⌝ }
+fn decide_outcome(
+    password: &[u8; rules::PASSWORD],
+    logins: &[u8; rules::LINES],
+    slots: &[u8; sessions::TABLE],
+    table: &[u8],
+    line: u8,
+    outcome: FrameOutcome,
+    held: &[u8],
+) -> Reply
+    requires { ⌜ (length (now held) ≡ limit) × Within outcome ⌝ }
+    ensures { λ r. ⌜ Decides (respondIf (hubOf (now (password .entry)) (now (logins .entry)) (now (slots .entry))) (now (table .entry)) line (told outcome (now (held .entry)))) (hubOf (now (password .entry)) (now (logins .entry)) (now (slots .entry))) (now (table .entry)) line (dataIn outcome (now (held .entry))) r ⌝ }
 {
     match outcome {
-        FrameOutcome::Nothing => Decided {
-            reply: Reply::Nothing,
-            hub: hub,
-        },
+        FrameOutcome::Nothing => Reply::Nothing,
         FrameOutcome::Frame { command, len } => {
             crate::decide::decide(
-                hub,
+                password,
+                logins,
+                slots,
                 table,
                 line,
                 command,
                 &held[frame::HEAD..frame::HEAD + len],
             )
         }
-        FrameOutcome::Refused(_) => crate::decide::failure(hub, crate::decide::FRAME_ERROR),
+        FrameOutcome::Refused(_) => Reply::Error(crate::decide::FRAME_ERROR),
     }
 }
 
-// What the request of a frame stores in the table.
-fn store_outcome(table: &mut [u8], reply: Reply, outcome: FrameOutcome, held: &[u8])
-    requires { ⌜ (length (now held) ≡ limit) × Within outcome × Enough reply (dataIn outcome (now held)) ⌝ }
-    ensures { λ r. ⌜ now (table .exit) ≡ storedBy outcome reply (now (held .entry)) (now (table .entry)) ⌝ }
+// How many data bytes a frame has that was read.
+fn data_len(outcome: FrameOutcome) -> usize
+    ensures { λ r. ⌜ r ≡ dataLength outcome ⌝ }
 {
     match outcome {
-        FrameOutcome::Nothing => {}
-        FrameOutcome::Frame { command: _, len } => {
-            crate::effects::store(table, reply, &held[frame::HEAD..frame::HEAD + len])
-        }
-        FrameOutcome::Refused(_) => {}
+        FrameOutcome::Nothing => 0,
+        FrameOutcome::Frame { command: _, len } => len,
+        FrameOutcome::Refused(_) => 0,
     }
 }

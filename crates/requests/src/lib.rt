@@ -5,15 +5,6 @@
 mod decide;
 mod effects;
 mod feed;
-mod passwords;
 
 pub use feed::call;
 pub use feed::call_in;
-use replies::Reply;
-use rules::Hub;
-
-// What is answered, and the hub that it leaves.
-struct Decided {
-    reply: Reply,
-    hub: Hub,
-}

@@ -11,7 +11,6 @@ use Rattle.frame.specs.Reader.{State, emptied, read}
 pub use Rattle.frame.specs.Writer.{shortRoom}
 use Rattle.nodes.specs.Table as table
 use Rattle.sessions.specs.Sessions as sessions
-use Rattle.sessions.specs.declared.Slot.{Slot}
 use Rattle.directory.specs.Lookup as directory
 pub use Rattle.directory.specs.Lookup.{unknownCommand, frameError}
 use Rattle.replies.specs.Messages.{Message, error, passwordEntered, passwordChanged, variationSet, nameSet, orderAndPlacementSet, nodesRemoved, virginStateSet, modeSendConfirmed, sessionFinished, bytesOf, aboutNode}
@@ -72,6 +71,19 @@ abbrev pub byVerdict : Option ℕ → (ℕ → Response) → Response → Respon
 byVerdict (some e) f x = f e
 byVerdict none f x = x
 
+-- ---- the hub with one part changed
+
+abbrev pub withPassword : Hub → List ℕ → Hub
+withPassword h p = record { password = p; logins = h .logins; slots = h .slots }
+
+-- a line logged in
+abbrev pub withLogin : Hub → ℕ → Hub
+withLogin h l = record { password = h .password; logins = set (h .logins) l 1; slots = h .slots }
+
+-- another session table
+abbrev pub withSlots : Hub → List ℕ → Hub
+withSlots h b = record { password = h .password; logins = h .logins; slots = b }
+
 -- ---- password enter and change
 
 -- what a password request answers, and the hub that it leaves
@@ -89,14 +101,14 @@ incorrect = 1
 unfoldable pub enter : Hub → ℕ → List ℕ → Password
 enter h l d =
     cond (same d (h .password))
-    (record { status = correct; hub = record { password = h .password; logins = set (h .logins) l 1; slots = h .slots } })
+    (record { status = correct; hub = withLogin h l })
     (record { status = incorrect; hub = h })
 
 -- the first 32 must equal the password, then the last 32 become it, status 0; otherwise status 1
 unfoldable pub change : Hub → List ℕ → List ℕ → Password
 change h old new =
     cond (same old (h .password))
-    (record { status = correct; hub = record { password = new; logins = h .logins; slots = h .slots } })
+    (record { status = correct; hub = withPassword h new })
     (record { status = incorrect; hub = h })
 
 -- by the request's data: the old password, and then the new
@@ -108,9 +120,6 @@ changed h d = change h (take passwordSize d) (drop passwordSize d)
 -- the request that a line may ask before it is logged in
 abbrev pub passwordEnter : ℕ
 passwordEnter = 0x3000
-
-abbrev pub withSlots : Hub → List Slot → Hub
-withSlots h ss = record { password = h .password; logins = h .logins; slots = ss }
 
 -- one frame is said
 abbrev pub reply : Hub → List ℕ → Message → Response
@@ -190,7 +199,7 @@ pub record Started : Type 0 where
   pub table : List ℕ
 
 abbrev pub freshHub : List ℕ → Hub
-freshHub p = record { password = p; logins = replicate lineCount 0; slots = replicate sessions.slotCount sessions.closedSlot }
+freshHub p = record { password = p; logins = replicate lineCount 0; slots = replicate sessions.sessionsSize 0 }
 
 -- the hub before any start
 abbrev pub firstHub : Hub

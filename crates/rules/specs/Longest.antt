@@ -165,7 +165,7 @@ pub notice-longest : (x : ℕ) → length (notice x) ≤ 212
 unfolding notice
 notice-longest x = frame-short (sessionFinished x) (omega arith)
 
-pub finish-enough : (h : Hub) (x room : ℕ) → any (sessions.isNumbered x) (h .slots) ≡ true → longestReply ≤ room → finish h x room .answer ≡ finishedOn (getD (h .slots) (first (sessions.isNumbered x) (h .slots)) sessions.closedSlot .line) (length (notice x))
+pub finish-enough : (h : Hub) (x room : ℕ) → any (sessions.isNumbered x) (sessions.slotsOf (h .slots)) ≡ true → longestReply ≤ room → finish h x room .answer ≡ finishedOn (sessions.slotAt (h .slots) (first (sessions.isNumbered x) (sessions.slotsOf (h .slots))) .line) (length (notice x))
 finish-enough h x room o e = ap (λ (f : Finished). f .answer) (finish-done h x room o (omega (arith, notice-longest x)))
 
 pub finish-longest : (h : Hub) (x room l n : ℕ) → finish h x room .answer ≡ finishedOn l n → n ≤ 212
@@ -181,7 +181,7 @@ finish-longest h x room l n e = go (sessions.finish (h .slots) x) (ltb room (len
 
 -- line 0 is logged in; node C0 is in use, and its other bytes are all C0, as the host may lend them: no call stores a variation above 4
 abbrev asking : Hub
-asking = record { password = replicate passwordSize 0; logins = 1 ∷ replicate 3 0; slots = replicate sessions.slotCount sessions.closedSlot }
+asking = record { password = replicate passwordSize 0; logins = 1 ∷ replicate 3 0; slots = replicate sessions.sessionsSize 0 }
 
 abbrev allEnds : List ℕ
 allEnds = replicate (0xC0 * table.recordSize) 0 ++ (1 ∷ replicate 71 0xC0) ++ replicate (7 * table.recordSize) 0

@@ -16,7 +16,7 @@ use Rattle.nodes.specs.Table.{tableSize, nodeCount, inUse, enrolled}
 use Rattle.nodes.specs.TableLaws.{used-below}
 use Rattle.sessions.specs.Sessions as sessions
 use Rattle.sessions.specs.Search.{any, first}
-use Rattle.sessions.specs.Sessions.{slotCount, closedSlot, isNumbered}
+use Rattle.sessions.specs.Sessions.{sessionsSize, slotsOf, slotAt, withSlot, closedSlot, isNumbered}
 use Rattle.feeds.specs.System.{refused as refusedFeed, serveIf, Called, call}
 use Rattle.feeds.specs.CallLaws.{call-refused, answer-refused}
 use Rattle.replies.specs.Messages.{error, bytesOf}
@@ -100,7 +100,7 @@ pub start-password : (h : Hub) (t p : List ℕ) → length t ≡ tableSize → (
 start-password h t p e k = rw (eq-eqb (length t) tableSize e, ne-eqb (length p) passwordSize k)
 
 pub start-done : (h : Hub) (t p : List ℕ) → length t ≡ tableSize → length p ≡ 32
-    → start h t p ≡ record { refusal = none; hub = record { password = p; logins = 0 ∷ 0 ∷ 0 ∷ 0 ∷ []; slots = replicate slotCount closedSlot }; table = replicate tableSize 0 }
+    → start h t p ≡ record { refusal = none; hub = record { password = p; logins = 0 ∷ 0 ∷ 0 ∷ 0 ∷ []; slots = replicate sessionsSize 0 }; table = replicate tableSize 0 }
 start-done h t p e k = rw (eq-eqb (length t) tableSize e, eq-eqb (length p) passwordSize k) (rw e)
 
 -- enrol: a table of another length (7), a node above 199 (11), one that is in use (12)
@@ -125,16 +125,16 @@ close-done h s l e = rw (lt-ltb l lineCount (omega arith))
 
 -- finish: a number that is not open (13), then a notice longer than the room (9); otherwise it closes the lowest slot that has the number,
 -- tells its line and writes frame 0304
-pub finish-not-open : (h : Hub) (x room : ℕ) → any (isNumbered x) (h .slots) ≡ false → finish h x room .answer ≡ refusedFinish 13
+pub finish-not-open : (h : Hub) (x room : ℕ) → any (isNumbered x) (slotsOf (h .slots)) ≡ false → finish h x room .answer ≡ refusedFinish 13
 unfolding sessions.finish
 finish-not-open h x room n = rw n
 
-pub finish-room : (h : Hub) (x room : ℕ) → any (isNumbered x) (h .slots) ≡ true → room < length (notice x) → finish h x room .answer ≡ refusedFinish 9
+pub finish-room : (h : Hub) (x room : ℕ) → any (isNumbered x) (slotsOf (h .slots)) ≡ true → room < length (notice x) → finish h x room .answer ≡ refusedFinish 9
 unfolding sessions.finish
 finish-room h x room n e = rw (n, lt-ltb room (length (notice x)) e)
 
-pub finish-done : (h : Hub) (x room : ℕ) → any (isNumbered x) (h .slots) ≡ true → length (notice x) ≤ room → let k = first (isNumbered x) (h .slots) in
-    finish h x room ≡ record { answer = finishedOn (getD (h .slots) k closedSlot .line) (length (notice x)); hub = withSlots h (set (h .slots) k closedSlot); reply = notice x }
+pub finish-done : (h : Hub) (x room : ℕ) → any (isNumbered x) (slotsOf (h .slots)) ≡ true → length (notice x) ≤ room → let k = first (isNumbered x) (slotsOf (h .slots)) in
+    finish h x room ≡ record { answer = finishedOn (slotAt (h .slots) k .line) (length (notice x)); hub = withSlots h (withSlot (h .slots) k closedSlot); reply = notice x }
 unfolding sessions.finish
 finish-done h x room n e = rw (n, le-ltb room (length (notice x)) e)
 

@@ -1,5 +1,5 @@
 -- Document 01's replies and limits that are not marked P, the order of judging an outcome, and what each request and host call leaves, computed.
-use Prim.Native.Nat.{ℕ, _+_, _-_, _*_}
+use Prim.Native.Nat.{ℕ, zero, suc, _+_, _-_, _*_}
 use mathlib.Core.Path.{_≡_, refl}
 use mathlib.Core.List.{List, [], _∷_, _++_, map}
 use mathlib.Core.Bool.{Bool, true, false}
@@ -15,7 +15,7 @@ use Rattle.nodes.specs.Table as table
 use Rattle.nodes.specs.Table.{recordSize}
 use Rattle.sessions.specs.Search as search
 use Rattle.sessions.specs.Sessions as sessions
-use Rattle.sessions.specs.Sessions.{slotCount, closedSlot}
+use Rattle.sessions.specs.Sessions.{sessionsSize, withSlot}
 use Rattle.sessions.specs.declared.Slot.{Slot}
 use Rattle.replies.specs.Messages.{variationSet, modeSendConfirmed, bytesOf, aboutNode}
 use Rattle.rules.specs.declared.Hub.{Hub}
@@ -26,11 +26,11 @@ use Rattle.rules.specs.Hub.{Reply, firstHub, respond, serve, request, en
 -- ---- hubs and tables
 
 -- lines 0 and 2 are logged in, with these sessions
-abbrev hubWith : List Slot → Hub
-hubWith ss = record { password = replicate 32 8; logins = 1 ∷ 0 ∷ 1 ∷ 0 ∷ []; slots = ss }
+abbrev hubWith : List ℕ → Hub
+hubWith b = record { password = replicate 32 8; logins = 1 ∷ 0 ∷ 1 ∷ 0 ∷ []; slots = b }
 
 abbrev loggedIn : Hub
-loggedIn = hubWith (replicate slotCount closedSlot)
+loggedIn = hubWith (replicate sessionsSize 0)
 
 -- a hub with another password, and one of which line 2 is not logged in
 abbrev passwordChanged : Hub → Hub
@@ -49,7 +49,7 @@ session nodes = record { used = 1; line = 2; number = 0x0102; nodes = nodes }
 
 -- it is open in the lowest slot
 abbrev opened : Slot → Hub
-opened s = hubWith (set (loggedIn .slots) 0 s)
+opened s = hubWith (withSlot (loggedIn .slots) 0 s)
 
 abbrev moving : Hub
 moving = opened (session (marks 0 0x08))
@@ -63,7 +63,12 @@ abbrev gate : Slot
 gate = record { used = 1; line = 0; number = 0xC0DB; nodes = marks 0 0x04 }
 
 abbrev both : Hub → Hub
-both h = hubWith (set (h .slots) 1 other)
+both h = hubWith (withSlot (h .slots) 1 other)
+
+-- the session table with it in the slots below n
+unfoldable full : ℕ → List ℕ
+full zero = replicate sessionsSize 0
+full (suc n) = withSlot (full n) n other
 
 -- the nodes below n are in use: each byte of their records is 1
 abbrev windows : ℕ → List ℕ
@@ -94,7 +99,7 @@ answers h o reply = leaves h 4 o h reply
 -- the right password before any start and later, and one whose last byte is wrong
 abbrev passwords : List Row
 passwords =
-    leaves firstHub 4 (frame 0x3000 (replicate 32 0)) (record { password = replicate 32 0; logins = 0 ∷ 0 ∷ 1 ∷ 0 ∷ []; slots = replicate 8 closedSlot })
+    leaves firstHub 4 (frame 0x3000 (replicate 32 0)) (record { password = replicate 32 0; logins = 0 ∷ 0 ∷ 1 ∷ 0 ∷ []; slots = replicate 232 0 })
     (0xC0 ∷ 0x00 ∷ 0x04 ∷ 0x30 ∷ 0x01 ∷ 0x00 ∷ 0x35 ∷ 0xC0 ∷ [])
     ∷ leaves (loggedOut moving) 4 (frame 0x3000 (replicate 32 8)) moving (wire 0x3001 (0 ∷ []))
     ∷ answers (loggedOut moving) (frame 0x3000 (replicate 31 8 ++ 1 ∷ [])) (wire 0x3001 (1 ∷ []))
@@ -187,15 +192,15 @@ modeSends =
     ∷ leaves loggedIn 20 (modeSend 21 (search.below 20)) loggedIn (sent 5)
     ∷ answers loggedIn (modeSend 0 (3 ∷ [])) (sent 5)
     ∷ answers moving (modeSend 1 (3 ∷ [])) (sent 3)
-    ∷ answers (hubWith (replicate 8 other)) (modeSend 1 (2 ∷ [])) (sent 4)
+    ∷ answers (hubWith (full 8)) (modeSend 1 (2 ∷ [])) (sent 4)
     ∷ answers (opened other) (modeSend 1 (2 ∷ [])) (sent 1)
     ∷ []
 
 -- removing node 3 closes its session and no other; virgin state zeroes the table and closes all sessions, logins and password stay
 abbrev removals : List Row
 removals =
-    row (hubWith (set (moving .slots) 1 (session (marks 0 0x01)))) (windows 4) (frame 0x0106 (8 ∷ replicate 25 0))
-    (hubWith (set (loggedIn .slots) 1 (session (marks 0 0x01)))) (windows 3 ++ replicate recordSize 0) (wire 0x0107 (0 ∷ []))
+    row (hubWith (withSlot (moving .slots) 1 (session (marks 0 0x01)))) (windows 4) (frame 0x0106 (8 ∷ replicate 25 0))
+    (hubWith (withSlot (loggedIn .slots) 1 (session (marks 0 0x01)))) (windows 3 ++ replicate recordSize 0) (wire 0x0107 (0 ∷ []))
     ∷ row (both moving) (windows 4) (frame 0x0108 []) loggedIn (replicate (4 * recordSize) 0) (wire 0x0109 [])
     ∷ []
 
@@ -203,14 +208,14 @@ abbrev rows : List Row
 rows = passwords ++ errors ++ misfits ++ changes ++ information ++ confirms ++ modeSends ++ removals
 
 rows-hold : map tried rows ≡ rows
-unfolding serve respond bytesOf aboutNode request enter same rules.change rules.virginState rules.removeNodes rules.modeSend sessions.modeSend sessions.isLegal sessions.targetsLegal sessions.marked sessions.withBit sessions.holdsRemoved search.any search.first search.below table.setVariation table.setField table.inUse table.bit table.removeBelow table.removeOne lookup.verdict lookup.verdictOf lookup.find directory wire escape framed body xor.xorAll xor._⊕_
+unfolding serve respond bytesOf aboutNode request enter same rules.change rules.virginState rules.removeNodes rules.modeSend full withSlot sessions.slotsOf sessions.closeBelow sessions.closeOne sessions.modeSend sessions.modeSendStatus sessions.isLegal sessions.targetsLegal sessions.marked sessions.withBit sessions.holdsRemoved search.any search.first search.below table.setVariation table.setField table.inUse table.bit table.removeBelow table.removeOne lookup.verdict lookup.verdictOf lookup.find directory wire escape framed body xor.xorAll xor._⊕_
 rows-hold = refl
 
 -- data bytes that are missing count as 0, and a line that is missing is not logged in; the directory and feed let neither come
 missing : request loggedIn (windows 1) 2 0x0206 [] ∷ request loggedIn (windows 1) 2 0x0320 [] ∷ []
     ≡ record { hub = loggedIn; table = replicate 70 1 ++ 0 ∷ 1 ∷ []; says = variationSet 0 0 ∷ [] }
     ∷ record { hub = loggedIn; table = windows 1; says = modeSendConfirmed 0 5 ∷ [] } ∷ []
-unfolding request rules.modeSend sessions.modeSend sessions.isLegal table.setVariation table.setField table.inUse
+unfolding request rules.modeSend sessions.modeSend sessions.modeSendStatus sessions.isLegal table.setVariation table.setField table.inUse
 missing = refl
 
 strangers : map (rules.isLoggedIn loggedIn) (0 ∷ 1 ∷ 2 ∷ 3 ∷ 4 ∷ []) ≡ true ∷ false ∷ true ∷ false ∷ false ∷ []
@@ -227,7 +232,7 @@ started : start moving (replicate 14399 1) (replicate 31 5) ∷ start moving (re
     ∷ start moving (replicate 14400 1) (replicate 32 5) ∷ []
     ≡ record { refusal = some 7; hub = moving; table = replicate 14399 1 } ∷ record { refusal = some 14; hub = moving; table = replicate 14400 1 }
     ∷ record { refusal = some 14; hub = moving; table = replicate 14400 1 }
-    ∷ record { refusal = none; hub = record { password = replicate 32 5; logins = replicate 4 0; slots = replicate 8 closedSlot }; table = replicate 14400 0 } ∷ []
+    ∷ record { refusal = none; hub = record { password = replicate 32 5; logins = replicate 4 0; slots = replicate 232 0 }; table = replicate 14400 0 } ∷ []
 started = refl
 
 -- enrol judges the table, then the node, then its use; the type goes high byte first, other fields are zero
@@ -244,7 +249,7 @@ closing l = close (both moving) (plain (0 ∷ [])) l
 closed : closing 2 ∷ closing 1 ∷ closing 3 ∷ closing 4 ∷ []
     ≡ record { refusal = none; hub = loggedOut (both loggedIn); state = emptied } ∷ record { refusal = none; hub = moving; state = emptied }
     ∷ record { refusal = none; hub = both moving; state = emptied } ∷ record { refusal = some 8; hub = both moving; state = plain (0 ∷ []) } ∷ []
-unfolding closing
+unfolding closing withSlot sessions.closeBelow sessions.closeOne sessions.slotsOf search.below
 closed = refl
 
 -- a number that is not open is judged before the room; the session's line is told, and its number goes high byte first
@@ -252,7 +257,7 @@ finished : finish moving 0x0103 0 ∷ finish (both moving) 0x0102 8 ∷ finish (
     ≡ record { answer = rules.refusedFinish 13; hub = moving; reply = [] } ∷ record { answer = rules.refusedFinish 9; hub = both moving; reply = [] }
     ∷ record { answer = rules.finishedOn 2 9; hub = both loggedIn; reply = 0xC0 ∷ 0x00 ∷ 0x05 ∷ 0x03 ∷ 0x04 ∷ 0x01 ∷ 0x02 ∷ 0x01 ∷ 0xC0 ∷ [] }
     ∷ record { answer = rules.finishedOn 1 9; hub = moving; reply = 0xC0 ∷ 0x00 ∷ 0x05 ∷ 0x03 ∷ 0x04 ∷ 0x01 ∷ 0x03 ∷ 0x00 ∷ 0xC0 ∷ [] } ∷ []
-unfolding rules.notice bytesOf sessions.finish search.any search.first wire escape framed body xor.xorAll xor._⊕_
+unfolding rules.notice bytesOf sessions.finish sessions.slotsOf withSlot search.below search.any search.first wire escape framed body xor.xorAll xor._⊕_
 finished = refl
 
 -- bytes that are escaped count twice
@@ -261,7 +266,7 @@ unfolding rules.notice bytesOf wire escape framed body xor.xorAll xor._⊕_
 noticed = refl
 
 escaped : finish (opened gate) 0xC0DB 10 .answer ∷ finish (opened gate) 0xC0DB 11 .answer ∷ [] ≡ rules.refusedFinish 9 ∷ rules.finishedOn 0 11 ∷ []
-unfolding rules.notice bytesOf sessions.finish search.any search.first wire escape framed body xor.xorAll xor._⊕_
+unfolding rules.notice bytesOf sessions.finish sessions.slotsOf withSlot search.below search.any search.first wire escape framed body xor.xorAll xor._⊕_
 escaped = refl
 
 -- feed judges the table, then the line, then what it would write: nothing, or the error reply of 8 bytes

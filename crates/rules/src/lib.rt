@@ -9,19 +9,18 @@ use line::Place;
 use line::Reading;
 pub use logins::is_logged_in;
 pub use refusals::number;
-use sessions::Slot;
 
 // Serial lines, and the bytes of a password.
 pub const LINES: usize = 4;
 
 pub const PASSWORD: usize = 32;
 
-// The hub's state: a line is logged in exactly if its number in `logins` is 1. The node table is lent to each call; the reading states are the
-// serial service's.
+// The hub's state: a line is logged in exactly if its number in `logins` is 1; `slots` is the session table. The node table is lent to each
+// call; the reading states are the serial service's.
 pub struct Hub {
     pub password: [u8; PASSWORD],
     pub logins: [u8; LINES],
-    pub slots: [Slot; sessions::SLOTS],
+    pub slots: [u8; sessions::TABLE],
 }
 
 // Why a call is refused.

@@ -2,6 +2,7 @@ pub mod Search
 pub mod SearchLaws
 pub mod ListLaws
 pub mod Sessions
+pub mod SlotLaws
 pub mod MarkLaws
 pub mod SessionLaws
 pub mod Holders

@@ -106,14 +106,15 @@ marked-bit n (m ∷ ns) ms =
     go true false c d = refl
     go false b c d = refl
 
+-- a place of zeros has 0, and so has one behind them
+pub zeros-at : (k i : ℕ) → _≡_ {A = ℕ} (getD (replicate k 0) i 0) 0
+zeros-at zero i = refl
+zeros-at (suc k) zero = refl
+zeros-at (suc k) (suc i) = zeros-at k i
+
 unmarked : (k n : ℕ) → bit (replicate k 0) n ≡ false
 unfolding bit
-unmarked k n = rw (zeros k (n / 8), zero-div (2 ^ (n % 8)))
-  where
-    zeros : (k i : ℕ) → _≡_ {A = ℕ} (getD (replicate k 0) i 0) 0
-    zeros zero i = refl
-    zeros (suc k) zero = refl
-    zeros (suc k) (suc i) = zeros k i
+unmarked k n = rw (zeros-at k (n / 8), zero-div (2 ^ (n % 8)))
 
 -- the bits of 25 bytes are 0 to 199
 places : (n : ℕ) → ltb (n / 8) markBytes ≡ ltb n targetCount
@@ -128,3 +129,12 @@ pub marks-exactly : (n l : ℕ) (r : ModeSend) → holds n (sessionSlot l r) ≡
 marks-exactly n l r =
     marked-bit n (named r) (replicate markBytes 0)
     ∙ rw (unmarked markBytes n, length-replicate {A = ℕ} markBytes 0, places n) (or-swap (ltb n targetCount && member n (named r)) false)
+
+-- the bits of a session are 25 bytes
+marked-length : (ns ms : List ℕ) → length (marked ms ns) ≡ length ms
+unfolding marked
+marked-length [] ms = refl
+marked-length (n ∷ ns) ms = marked-length ns (withBit ms n) ∙ withBit-length ms n
+
+pub session-marks : (l : ℕ) (r : ModeSend) → length (sessionSlot l r .nodes) ≡ markBytes
+session-marks l r = marked-length (named r) (replicate markBytes 0) ∙ length-replicate {A = ℕ} markBytes 0

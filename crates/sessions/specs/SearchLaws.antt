@@ -5,6 +5,7 @@ use mathlib.Core.List.{List, [], _∷_, _++_}
 use mathlib.Core.Bool.{Bool, true, false, cond, _||_}
 use native.Mathlib.Numerals.{add-one}
 use native.Mathlib.Nat.{add-zero, add-suc, suc-add}
+use native.Mathlib.Omega.{arith}
 use lib.ListN.{length, drop, getD, drop-of-length-le}
 use lib.Seq.{drop-cons}
 use lib.Dec.{ltb, eqb, leb·zero, leb·suc-suc}
@@ -46,6 +47,15 @@ module _ {A : Type 0} (p : A → Bool) where
       go : (b : Bool) → any p l ≡ ltb (first p l) (length l) → cond b true (any p l) ≡ ltb (cond b 0 (suc (first p l))) (suc (length l))
       go true e = sym (leb·suc-suc 0 (length l) ∙ leb·zero (length l))
       go false e = e ∙ sym (leb·suc-suc (suc (first p l)) (length l))
+
+  pub first-within : (l : List A) → first p l ≤ length l
+  unfolding first
+  first-within [] = omega arith
+  first-within (a ∷ l) = go (p a) (first-within l)
+    where
+      go : (b : Bool) → first p l ≤ length l → cond b 0 (suc (first p l)) ≤ suc (length l)
+      go true h = omega arith
+      go false h = omega arith
 
   -- one element more behind the others, and one number more
   pub any-last : (l : List A) (a : A) → any p (l ++ a ∷ []) ≡ (any p l || p a)

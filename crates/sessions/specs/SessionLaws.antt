@@ -1,7 +1,7 @@
 -- Laws of the sessions.
 use Prim.Native.Nat.{ℕ, zero, suc, _+_, _<_, _≤_}
 use mathlib.Core.Path.{_≡_, refl, sym, ap, _∙_}
-use mathlib.Core.List.{List, [], _∷_}
+use mathlib.Core.List.{List, [], _∷_, map}
 use mathlib.Core.Bool.{Bool, true, false, cond, not, _&&_, true≢false, false≢true}
 use mathlib.Core.Option.{Option, none, some}
 use native.Mathlib.Numerals.{add-one}
@@ -9,45 +9,56 @@ use native.Mathlib.Omega.{arith}
 use lib.ListN.{length, take, drop, getD, set, replicate, length-set, drop-of-length-le}
 use lib.Seq.{drop-cons, take-suc}
 use lib.Dec.{leb, ltb, eqb}
-use borrow.Author.Tests.{leb-true}
-use Rattle.nodes.specs.Cases.{either, either-by}
+use borrow.Author.Tests.{leb-true, eqb-true}
+use Rattle.nodes.specs.Cases.{either-by}
 use Rattle.nodes.specs.Table.{inUse, isRemoved, nodeCount}
 use Rattle.sessions.specs.declared.Slot.{Slot}
 use Rattle.sessions.specs.declared.ModeSend.{ModeSend}
-use Rattle.sessions.specs.declared.Sent.{Sent}
-use Rattle.sessions.specs.declared.Owner.the-variants.{Line, NotOpen}
-use Rattle.sessions.specs.declared.Ended.{Ended}
 use Rattle.sessions.specs.Search.{any, first, member, below}
 use Rattle.sessions.specs.SearchLaws.{member-last}
-use Rattle.sessions.specs.Sessions.{closedSlot, isOpen, isOn, closeLine, holdsRemoved, closeRemoved, isFree, isNumbered, holds, close, closeAll, targetCount, maxIndices, named, targetsLegal, isLegal, withBit, marked, sessionSlot, modeSend, Finished, Ends}
+use Rattle.sessions.specs.Sessions.{sessionsSize, slotsOf, closedSlot, isOpen, isOn, closeIf, closeLine, holdsRemoved, closeRemoved, isFree, isNumbered, holds, close, targetCount, maxIndices, named, accepted, rejected, sessionInUse, noFreeSlot, illegalParameter, targetsLegal, isLegal, withBit, marked, sessionSlot, modeSendStatus, opened, modeSend, Finished, finish, leftBy, notOpen, refused, onLine, told}
+use Rattle.sessions.specs.SlotLaws.{withSlot-length, close-slots}
 
--- a mode send leaves the slots, or opens a session in the lowest free one, of whose nodes none is held
-pub modeSend-leaves : (P : List Slot → Type 0) (ss : List Slot) (t : List ℕ) (l : ℕ) (r : ModeSend) → P ss
-    → (any (λ n. any (holds n) ss) (named r) ≡ false → P (set ss (first isFree ss) (sessionSlot l r))) → P (modeSend ss t l r .slots)
+-- status 0 is given only where no node that is named is held
+pub accepted-free : (ss : List Slot) (t : List ℕ) (r : ModeSend) → modeSendStatus ss t r ≡ accepted → any (λ n. any (holds n) ss) (named r) ≡ false
+unfolding modeSendStatus
+accepted-free ss t r e = go (isLegal t r) (any (isNumbered (r .session)) ss) (any isFree ss) (any (λ n. any (holds n) ss) (named r)) e
+  where
+    go : (a b c d : Bool) → cond (not a) illegalParameter (cond b sessionInUse (cond (not c) noFreeSlot (cond d rejected accepted))) ≡ accepted → d ≡ false
+    go true false true false e = refl
+    go true false true true e = absurd (omega arith)
+    go true false false d e = absurd (omega arith)
+    go true true c d e = absurd (omega arith)
+    go false b c d e = absurd (omega arith)
+
+-- a mode send leaves the session table, or opens a session in the lowest free slot, of whose nodes none is held
+pub modeSend-leaves : (P : List ℕ → Type 0) (b t : List ℕ) (l : ℕ) (r : ModeSend) → P b
+    → (any (λ n. any (holds n) (slotsOf b)) (named r) ≡ false → P (opened b l r)) → P (modeSend b t l r .slots)
 unfolding modeSend
-modeSend-leaves P ss t l r same opened =
-    either (λ (s : Sent). P (s .slots)) (not (isLegal t r)) _ _ same
-    (either (λ (s : Sent). P (s .slots)) (any (isNumbered (r .session)) ss) _ _ same
-    (either (λ (s : Sent). P (s .slots)) (not (any isFree ss)) _ _ same
-    (either-by (λ (s : Sent). P (s .slots)) (any (λ n. any (holds n) ss) (named r)) _ _ (λ e. same) opened)))
+modeSend-leaves P b t l r same taken =
+    let s = modeSendStatus (slotsOf b) t r in
+    either-by P (eqb s accepted) (opened b l r) b (λ e. taken (accepted-free (slotsOf b) t r (eqb-true s accepted e))) (λ e. same)
 
--- there are as many slots after a mode send as before
-pub modeSend-length : (ss : List Slot) (t : List ℕ) (l : ℕ) (r : ModeSend) → length (modeSend ss t l r .slots) ≡ length ss
-modeSend-length ss t l r = modeSend-leaves (λ (vs : List Slot). length vs ≡ length ss) ss t l r refl (λ e. length-set ss (first isFree ss) (sessionSlot l r))
+-- the session table is as long after a mode send as before
+pub modeSend-length : (b t : List ℕ) (l : ℕ) (r : ModeSend) → length (modeSend b t l r .slots) ≡ length b
+modeSend-length b t l r = modeSend-leaves (λ (c : List ℕ). length c ≡ length b) b t l r refl (λ e. withSlot-length b (first isFree (slotsOf b)) (sessionSlot l r))
 
 -- after the sessions that pass a test are closed, none passes it, if a free slot does not
-pub close-none : (p : Slot → Bool) → p closedSlot ≡ false → (ss : List Slot) → any p (close p ss) ≡ false
+none-left : (p : Slot → Bool) → p closedSlot ≡ false → (ss : List Slot) → any p (map (closeIf p) ss) ≡ false
 unfolding any
-close-none p e [] = refl
-close-none p e (s ∷ ss) = go (p s) refl (close-none p e ss)
+none-left p e [] = refl
+none-left p e (s ∷ ss) = go (p s) refl (none-left p e ss)
   where
-    go : (b : Bool) → p s ≡ b → any p (close p ss) ≡ false → cond (p (cond b closedSlot s)) true (any p (close p ss)) ≡ false
+    go : (b : Bool) → p s ≡ b → any p (map (closeIf p) ss) ≡ false → cond (p (cond b closedSlot s)) true (any p (map (closeIf p) ss)) ≡ false
     go true x y = rw (e, y)
     go false x y = rw (x, y)
 
+pub close-none : (p : Slot → Bool) → p closedSlot ≡ false → (b : List ℕ) → length b ≡ sessionsSize → any p (slotsOf (close p b)) ≡ false
+close-none p e b size = rw (close-slots p b size) (none-left p e (slotsOf b))
+
 -- so no session is on a line that was closed
-pub closeLine-none : (l : ℕ) (ss : List Slot) → any (isOn l) (closeLine l ss) ≡ false
-closeLine-none l ss = close-none (isOn l) refl ss
+pub closeLine-none : (l : ℕ) (b : List ℕ) → length b ≡ sessionsSize → any (isOn l) (slotsOf (closeLine l b)) ≡ false
+closeLine-none l b size = close-none (isOn l) refl b size
 
 -- a slot without an open session holds no node
 free-none : (s : Slot) → isOpen s ≡ false → (f : ℕ → Bool) (l : List ℕ) → any (λ k. holds k s && f k) l ≡ false
@@ -60,8 +71,8 @@ unfolding holdsRemoved
 removed-none t bits s e = free-none s e (isRemoved t bits) (below nodeCount)
 
 -- and none holds a node that was removed
-pub closeRemoved-none : (t bits : List ℕ) (ss : List Slot) → any (holdsRemoved t bits) (closeRemoved t bits ss) ≡ false
-closeRemoved-none t bits ss = close-none (holdsRemoved t bits) (removed-none t bits closedSlot refl) ss
+pub closeRemoved-none : (t bits b : List ℕ) → length b ≡ sessionsSize → any (holdsRemoved t bits) (slotsOf (closeRemoved t bits b)) ≡ false
+closeRemoved-none t bits b size = close-none (holdsRemoved t bits) (removed-none t bits closedSlot refl) b size
 
 -- a legal request has at most 20 indices
 pub legal-count : (t : List ℕ) (r : ModeSend) → isLegal t r ≡ true → r .count ≤ maxIndices
@@ -125,20 +136,17 @@ pub marked-end : (ms is : List ℕ) (i : ℕ) → length is ≤ i → marked ms 
 unfolding marked
 marked-end ms is i h = rw (drop-of-length-le is h)
 
--- closing all leaves free slots only
-pub closeAll-free : (ss : List Slot) (n : ℕ) → length ss ≡ n → closeAll ss ≡ replicate n closedSlot
-closeAll-free [] zero e = refl
-closeAll-free [] (suc n) e = absurd (omega arith)
-closeAll-free (s ∷ ss) zero e = absurd (omega arith)
-closeAll-free (s ∷ ss) (suc n) e = ap (λ (l : List Slot). closedSlot ∷ l) (closeAll-free ss n (omega arith))
+-- the slots of a session that is told of: it is open under its number, in the slot that finish closes
+pub finish-told : (b : List ℕ) (x l : ℕ) → told (finish b x) ≡ onLine l → finish b x ≡ some (record { line = l; slots = leftBy (finish b x) b })
+finish-told b x l e = go (finish b x) e
+  where
+    go : (o : Option Finished) → told o ≡ onLine l → o ≡ some (record { line = l; slots = leftBy o b })
+    go none e = let z : _≡_ {A = ℕ} 0 1 = cc in absurd (omega arith)
+    go (some f) e = let line : f .line ≡ l = cc in rw (← line)
 
--- what finish gives, from what the code tells
-pub ended-open : (e : Ended) (ss : List Slot) (o : Option Finished) (l : ℕ) → Ends ss o e → e .told ≡ Line l → o ≡ some (record { line = l; slots = e .slots })
-ended-open e ss none l x y = let z : _≡_ {A = ℕ} 0 1 = cc (x .told) in absurd (omega arith)
-ended-open e ss (some f) l x y =
-    let line : f .line ≡ l = cc (x .told) in
-    rw (← line, ← x .slots)
-
-pub ended-not-open : (e : Ended) (ss : List Slot) (o : Option Finished) → Ends ss o e → e .told ≡ NotOpen → o ≡ none
-ended-not-open e ss none x y = refl
-ended-not-open e ss (some f) x y = let z : _≡_ {A = ℕ} 0 1 = cc (x .told) in absurd (omega arith)
+pub finish-not-open : (b : List ℕ) (x : ℕ) → told (finish b x) ≡ refused notOpen → finish b x ≡ none
+finish-not-open b x e = go (finish b x) e
+  where
+    go : (o : Option Finished) → told o ≡ refused notOpen → o ≡ none
+    go none e = refl
+    go (some f) e = let z : _≡_ {A = ℕ} 0 1 = cc in absurd (omega arith)

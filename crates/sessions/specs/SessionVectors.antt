@@ -5,13 +5,13 @@ use mathlib.Core.Path.{_≡_, refl}
 use mathlib.Core.List.{List, [], _∷_, _++_, map}
 use mathlib.Core.Bool.{Bool, true, false}
 use mathlib.Core.Option.{none, some}
-use lib.ListN.{length, drop, set, replicate}
+use lib.ListN.{length, take, drop, replicate}
 use Rattle.nodes.specs.Table.{inUse, bit}
 use Rattle.sessions.specs.declared.Slot.{Slot}
 use Rattle.sessions.specs.declared.ModeSend.{ModeSend}
 use Rattle.sessions.specs.declared.Owner.the-variants.{Line, NotOpen}
 use Rattle.sessions.specs.Search.{any, first, below}
-use Rattle.sessions.specs.Sessions.{slotCount, targetCount, markBytes, closedSlot, isFree, isNumbered, isOn, holds, holders, closeAll, closeLine, holdsRemoved, closeRemoved, modeSendSize, maxIndices, modeSendOf, targetsLegal, isLegal, withBit, marked, sessionSlot, modeSend, finish, refused, onLine, told, toldBy}
+use Rattle.sessions.specs.Sessions.{slotCount, targetCount, markBytes, slotSize, sessionsSize, marksAt, slotsOf, slotBytes, withSlot, closedSlot, slotAt, isFree, isNumbered, isOn, holds, holders, closeOne, closeBelow, closeAll, closeLine, holdsRemoved, closeRemoved, modeSendSize, maxIndices, modeSendOf, targetsLegal, isLegal, withBit, marked, sessionSlot, modeSendStatus, modeSend, finish, refused, onLine, told, toldBy}
 
 unfoldable nodes : List ℕ
 nodes = replicate (20 * 72) 1
@@ -38,17 +38,31 @@ unknown : map mayAsk (0 ∷ 4 ∷ 6 ∷ 7 ∷ 10 ∷ 14 ∷ 254 ∷ []) ≡ repl
 unfolding nodes mayAsk isLegal targetsLegal inUse any below
 unknown = refl
 
--- eight slots, 200 targets and a bit for each, 31 data bytes of a mode send and 20 indices
-sizes : slotCount ∷ targetCount ∷ markBytes ∷ modeSendSize ∷ maxIndices ∷ [] ≡ 8 ∷ 200 ∷ 25 ∷ 31 ∷ 20 ∷ []
+-- eight slots of 29 bytes, 200 targets and a bit for each behind four bytes, 31 data bytes of a mode send and 20 indices
+sizes : slotCount ∷ slotSize ∷ sessionsSize ∷ targetCount ∷ markBytes ∷ marksAt ∷ modeSendSize ∷ maxIndices ∷ [] ≡ 8 ∷ 29 ∷ 232 ∷ 200 ∷ 25 ∷ 4 ∷ 31 ∷ 20 ∷ []
 sizes = refl
+
+-- the bytes of some slots, one behind the other
+unfoldable laid : List Slot → List ℕ
+laid [] = []
+laid (s ∷ ss) = slotBytes s ++ laid ss
+
+-- no session
+unfoldable empty : List ℕ
+empty = replicate 232 0
 
 -- a closed slot is not used, and holds line 0, number 0 and no node
 closed : closedSlot ≡ record { used = 0; line = 0; number = 0; nodes = replicate 25 0 }
 closed = refl
 
 -- virgin state and start leave closed slots
-closed-all : closeAll (closedSlot ∷ sessionSlot 1 (asked 1 3 1 0) ∷ []) ≡ closedSlot ∷ closedSlot ∷ []
+closed-all : closeAll (laid (replicate 8 (sessionSlot 1 (asked 1 3 1 0)))) ≡ laid (replicate 8 closedSlot)
+unfolding laid marked below bit withBit
 closed-all = refl
+
+no-session : slotsOf empty ≡ replicate 8 closedSlot
+unfolding empty slotsOf below
+no-session = refl
 
 -- a mode send of these nodes; the places behind the indices have 5, which counts for nothing
 unfoldable request : ℕ → List ℕ → ModeSend
@@ -58,6 +72,13 @@ request x ns = record { session = x; originator = 1; priority = 3; count = lengt
 taken : sessionSlot 3 (request 0x0102 (9 ∷ 0 ∷ 199 ∷ 14 ∷ [])) ≡ record { used = 1; line = 3; number = 0x0102; nodes = 0x01 ∷ 0x42 ∷ replicate 22 0 ++ 0x80 ∷ [] }
 unfolding request marked bit withBit
 taken = refl
+
+-- in the last of eight slots it is in use, line, number, high byte first, and bits; it is read as it was put there
+in-table : let b = withSlot empty 7 (sessionSlot 3 (request 0x0102 (9 ∷ 0 ∷ 199 ∷ 14 ∷ []))) in
+    (b ≡ replicate 203 0 ++ 1 ∷ 3 ∷ 0x01 ∷ 0x02 ∷ 0x01 ∷ 0x42 ∷ replicate 22 0 ++ 0x80 ∷ [])
+    × (slotsOf b ≡ replicate 7 closedSlot ++ sessionSlot 3 (request 0x0102 (9 ∷ 0 ∷ 199 ∷ 14 ∷ [])) ∷ [])
+unfolding empty request withSlot slotsOf below marked bit withBit
+in-table = (refl, refl)
 
 -- it holds these, and neither those between nor one behind; a slot that is not used holds none
 unfoldable left : ℕ → Slot
@@ -87,58 +108,65 @@ unfolding over targetsLegal inUse any
 indices = refl
 
 -- the lowest of the eight slots has the session
-unfoldable busy : List Slot
-busy = set (replicate 8 closedSlot) 0 (sessionSlot 0 (request 1 (5 ∷ [])))
+unfoldable busy : List ℕ
+busy = withSlot empty 0 (sessionSlot 0 (request 1 (5 ∷ [])))
 
-opened : modeSend (replicate 8 closedSlot) nodes 0 (request 1 (5 ∷ [])) ≡ record { status = 0; slots = busy }
-unfolding nodes request busy modeSend isLegal targetsLegal inUse any first marked bit withBit
+opened : modeSend empty nodes 0 (request 1 (5 ∷ [])) ≡ record { status = 0; slots = busy }
+unfolding nodes empty request busy modeSend modeSendStatus withSlot slotsOf below isLegal targetsLegal inUse any first marked bit withBit
 opened = refl
 
 -- all slots are taken, by sessions with node 5
-unfoldable full : List Slot
-full = replicate 8 (sessionSlot 0 (request 1 (5 ∷ [])))
+unfoldable full : List ℕ
+full = laid (replicate 8 (sessionSlot 0 (request 1 (5 ∷ []))))
 
-unfoldable status : List Slot → ModeSend → ℕ
-status ss r = modeSend ss nodes 1 r .status
+-- the status of a mode send, and whether the session table stays
+unfoldable status : List ℕ → ModeSend → ℕ
+status b r = modeSend b nodes 1 r .status
 
 -- a node that is not in use, one named twice, a number that is open, no free slot, a node that is held, and none of these
 statuses : status busy (request 2 (20 ∷ [])) ∷ status busy (request 2 (7 ∷ 7 ∷ [])) ∷ status busy (request 1 (5 ∷ [])) ∷ status full (request 2 (7 ∷ []))
     ∷ status busy (request 2 (7 ∷ 5 ∷ [])) ∷ status busy (request 2 (7 ∷ [])) ∷ []
     ≡ 5 ∷ 5 ∷ 3 ∷ 4 ∷ 1 ∷ 0 ∷ []
-unfolding nodes request busy full status modeSend isLegal targetsLegal inUse any first marked bit withBit
+unfolding nodes empty laid request busy full status modeSend modeSendStatus withSlot slotsOf below isLegal targetsLegal inUse any first marked bit withBit
 statuses = refl
 
 -- the first that applies: 5 before 3, 3 before 4, 4 before 1
 firsts : status busy (request 1 (20 ∷ [])) ∷ status full (request 1 (7 ∷ [])) ∷ status full (request 2 (5 ∷ [])) ∷ [] ≡ 5 ∷ 3 ∷ 4 ∷ []
-unfolding nodes request busy full status modeSend isLegal targetsLegal inUse any first marked bit withBit
+unfolding nodes empty laid request busy full status modeSend modeSendStatus withSlot slotsOf below isLegal targetsLegal inUse any first marked bit withBit
 firsts = refl
 
 -- a session of the same line holds its nodes; the number in a free slot is not open
 held : modeSend busy nodes 0 (request 2 (5 ∷ [])) .status ∷ status busy (request 0 (7 ∷ [])) ∷ [] ≡ 1 ∷ 0 ∷ []
-unfolding nodes request busy status modeSend isLegal targetsLegal inUse any first marked bit withBit
+unfolding nodes empty request busy status modeSend modeSendStatus withSlot slotsOf below isLegal targetsLegal inUse any first marked bit withBit
 held = refl
+
+-- a mode send that is not accepted leaves the session table as it was
+stays : modeSend busy nodes 1 (request 2 (7 ∷ 5 ∷ [])) ≡ record { status = 1; slots = busy }
+unfolding nodes empty request busy modeSend modeSendStatus withSlot slotsOf below isLegal targetsLegal inUse any first marked bit withBit
+stays = refl
 
 -- two slots with the same number: finish closes the lowest, and tells its line
 unfoldable slot : ℕ → ℕ → Slot
 slot l x = sessionSlot l (request x (5 ∷ []))
 
-finished : finish (closedSlot ∷ slot 3 1 ∷ slot 2 1 ∷ []) 1 ∷ finish (slot 3 1 ∷ []) 2 ∷ [] ≡ some (record { line = 3; slots = closedSlot ∷ closedSlot ∷ slot 2 1 ∷ [] }) ∷ none ∷ []
-unfolding request slot finish any first marked bit withBit
+finished : finish (laid (closedSlot ∷ slot 3 1 ∷ slot 2 1 ∷ [])) 1 ∷ finish (laid (slot 3 1 ∷ [])) 2 ∷ []
+    ≡ some (record { line = 3; slots = laid (closedSlot ∷ closedSlot ∷ slot 2 1 ∷ []) }) ∷ none ∷ []
+unfolding laid request slot finish slotsOf withSlot below any first marked bit withBit
 finished = refl
 
 -- line 3 is closed: its session closes, and that of line 2 stays
-closed-line : closeLine 3 (slot 3 1 ∷ slot 2 2 ∷ []) ≡ closedSlot ∷ slot 2 2 ∷ []
-unfolding request slot marked bit withBit
+closed-line : closeLine 3 (laid (slot 3 1 ∷ slot 2 2 ∷ [])) ≡ laid (closedSlot ∷ slot 2 2 ∷ [])
+unfolding laid request slot closeBelow closeOne slotsOf withSlot below marked bit withBit
 closed-line = refl
 
 -- the lowest slot is freed and used again
-used-again : modeSend (closeLine 0 busy) nodes 3 (request 2 (7 ∷ [])) ≡ record { status = 0; slots = set busy 0 (sessionSlot 3 (request 2 (7 ∷ []))) }
-unfolding nodes request busy modeSend isLegal targetsLegal inUse any first marked bit withBit
+used-again : modeSend (closeLine 0 busy) nodes 3 (request 2 (7 ∷ [])) ≡ record { status = 0; slots = withSlot empty 0 (sessionSlot 3 (request 2 (7 ∷ []))) }
+unfolding nodes empty request busy closeBelow closeOne modeSend modeSendStatus withSlot slotsOf below isLegal targetsLegal inUse any first marked bit withBit
 used-again = refl
 
 -- node 7 is removed: of two sessions the one that has it closes, with its other node
-closed-removed : closeRemoved nodes (128 ∷ []) (sessionSlot 0 (request 1 (7 ∷ 5 ∷ [])) ∷ slot 0 2 ∷ []) ≡ closedSlot ∷ slot 0 2 ∷ []
-unfolding nodes request slot holdsRemoved any below bit inUse marked withBit
+closed-removed : closeRemoved nodes (128 ∷ []) (laid (sessionSlot 0 (request 1 (7 ∷ 5 ∷ [])) ∷ slot 0 2 ∷ [])) ≡ laid (closedSlot ∷ slot 0 2 ∷ [])
+unfolding nodes laid request slot closeBelow closeOne slotsOf withSlot holdsRemoved any below bit inUse marked withBit
 closed-removed = refl
 
 -- a session with node 199 closes when it is removed, and stays when another is
@@ -150,7 +178,7 @@ unfolding over request with-199 holdsRemoved any below bit inUse marked withBit
 removed-last = refl
 
 -- what finish tells: the line, or refusal 13; of both answers
-tells : told (some (record { line = 3; slots = closedSlot ∷ [] })) ∷ told none ∷ [] ≡ onLine 3 ∷ refused 13 ∷ []
+tells : told (some (record { line = 3; slots = [] })) ∷ told none ∷ [] ≡ onLine 3 ∷ refused 13 ∷ []
 tells = refl
 
 answers : map toldBy (Line 3 ∷ NotOpen ∷ []) ≡ onLine 3 ∷ refused 13 ∷ []

@@ -1,22 +1,21 @@
 -- The sessions (document 01, mode send and the host calls): who holds which motor.
-use Prim.Native.Nat.{ℕ, _+_, _*_, _/_, _%_, _^_}
+use Prim.Native.Nat.{ℕ, zero, suc, _+_, _*_, _/_, _%_, _^_}
 use mathlib.Core.Path.{_≡_}
 use mathlib.Core.List.{List, [], _∷_, map}
 use mathlib.Core.Bool.{Bool, true, false, cond, not, _&&_}
 use mathlib.Core.Option.{Option, none, some}
-use lib.ListN.{take, drop, set, getD, replicate}
+use lib.ListN.{length, take, drop, set, getD, replicate}
 use lib.Dec.{leb, ltb, eqb}
+use lib.Seq.{sets}
 use lib.Bits.{bitOr}
 use Rattle.nodes.specs.Table.{inUse, bit, isRemoved, nodeCount}
 use Rattle.sessions.specs.declared.Slot.{Slot}
 use Rattle.sessions.specs.declared.ModeSend.{ModeSend}
-use Rattle.sessions.specs.declared.Sent.{Sent}
 use Rattle.sessions.specs.declared.Owner.{Owner}
 use Rattle.sessions.specs.declared.Owner.the-variants.{Line, NotOpen}
-use Rattle.sessions.specs.declared.Ended.{Ended}
 use Rattle.sessions.specs.Search.{any, first, member, below}
 
--- ---- slots
+-- ---- the session table
 
 -- eight slots for all lines together
 abbrev pub slotCount : ℕ
@@ -30,9 +29,44 @@ targetCount = 200
 abbrev pub markBytes : ℕ
 markBytes = 25
 
+-- a slot is 29 bytes: in use (exactly if 1), line 1, number 2, high byte first, nodes 25
+abbrev pub slotSize : ℕ
+slotSize = 29
+
+abbrev pub sessionsSize : ℕ
+sessionsSize = slotCount * slotSize
+
+-- where the nodes begin in a slot
+abbrev pub marksAt : ℕ
+marksAt = 4
+
+-- what a slot says whose bytes begin at a place
+abbrev pub slotFrom : List ℕ → ℕ → Slot
+slotFrom b i = record {
+  used = getD b i 0;
+  line = getD b (i + 1) 0;
+  number = getD b (i + 2) 0 * 256 + getD b (i + 3) 0;
+  nodes = take markBytes (drop (i + marksAt) b);
+}
+
+-- the slots of a session table, one behind the other
+unfoldable pub slotsOf : List ℕ → List Slot
+slotsOf b = map (λ k. slotFrom b (k * slotSize)) (below slotCount)
+
+-- a slot as its bytes, and the table with these in slot k
+abbrev pub slotBytes : Slot → List ℕ
+slotBytes s = s .used ∷ s .line ∷ s .number / 256 ∷ s .number % 256 ∷ s .nodes
+
+unfoldable pub withSlot : List ℕ → ℕ → Slot → List ℕ
+withSlot b k s = sets b (k * slotSize) (slotBytes s)
+
 -- a free slot holds nothing, so that a closed session leaves no node held
 abbrev pub closedSlot : Slot
 closedSlot = record { used = 0; line = 0; number = 0; nodes = replicate markBytes 0 }
+
+-- slot k
+abbrev pub slotAt : List ℕ → ℕ → Slot
+slotAt b k = getD (slotsOf b) k closedSlot
 
 -- a slot has an open session exactly if its number for that is 1, as a node is in use
 abbrev pub isOpen : Slot → Bool
@@ -57,26 +91,33 @@ unfoldable pub holders : ℕ → List Slot → ℕ
 holders n [] = 0
 holders n (s ∷ ss) = cond (holds n s) 1 0 + holders n ss
 
--- the sessions that pass a test are closed
+-- the sessions that pass a test are closed, slot by slot
 abbrev pub closeIf : (Slot → Bool) → Slot → Slot
 closeIf p s = cond (p s) closedSlot s
 
-abbrev pub close : (Slot → Bool) → List Slot → List Slot
-close p ss = map (closeIf p) ss
+unfoldable pub closeOne : (Slot → Bool) → ℕ → List ℕ → List ℕ
+closeOne p k b = cond (p (slotAt b k)) (withSlot b k closedSlot) b
 
--- virgin state and start close all
-abbrev pub closeAll : List Slot → List Slot
-closeAll = close (λ s. true)
+unfoldable pub closeBelow : (Slot → Bool) → ℕ → List ℕ → List ℕ
+closeBelow p zero b = b
+closeBelow p (suc k) b = closeOne p k (closeBelow p k b)
+
+abbrev pub close : (Slot → Bool) → List ℕ → List ℕ
+close p b = closeBelow p slotCount b
+
+-- virgin state and start close all: no slot is in use
+abbrev pub closeAll : List ℕ → List ℕ
+closeAll b = replicate (length b) 0
 
 -- close a line: its sessions closed
-abbrev pub closeLine : ℕ → List Slot → List Slot
+abbrev pub closeLine : ℕ → List ℕ → List ℕ
 closeLine l = close (isOn l)
 
 -- remove nodes: every session with a removed node closes
 unfoldable pub holdsRemoved : List ℕ → List ℕ → Slot → Bool
 holdsRemoved t bits s = any (λ k. holds k s && isRemoved t bits k) (below nodeCount)
 
-abbrev pub closeRemoved : List ℕ → List ℕ → List Slot → List Slot
+abbrev pub closeRemoved : List ℕ → List ℕ → List ℕ → List ℕ
 closeRemoved t bits = close (holdsRemoved t bits)
 
 -- ---- mode send (section 10.6)
@@ -153,31 +194,44 @@ abbrev pub sessionSlot : ℕ → ModeSend → Slot
 sessionSlot l r = record { used = 1; line = l; number = r .session; nodes = marked (replicate markBytes 0) (named r) }
 
 -- the status, the first that applies: 5; 3 if the session number is open on any line; 4 if all slots are taken; 1 if a named node is in
--- an open session, the same line's included; else 0, and the lowest free slot takes the session, its line and its nodes
-unfoldable pub modeSend : List Slot → List ℕ → ℕ → ModeSend → Sent
-modeSend ss t l r =
-    cond (not (isLegal t r)) (record { status = illegalParameter; slots = ss })
-    (cond (any (isNumbered (r .session)) ss) (record { status = sessionInUse; slots = ss })
-    (cond (not (any isFree ss)) (record { status = noFreeSlot; slots = ss })
-    (cond (any (λ n. any (holds n) ss) (named r)) (record { status = rejected; slots = ss })
-    (record { status = accepted; slots = set ss (first isFree ss) (sessionSlot l r) }))))
+-- an open session, the same line's included; else 0
+unfoldable pub modeSendStatus : List Slot → List ℕ → ModeSend → ℕ
+modeSendStatus ss t r =
+    cond (not (isLegal t r)) illegalParameter
+    (cond (any (isNumbered (r .session)) ss) sessionInUse
+    (cond (not (any isFree ss)) noFreeSlot
+    (cond (any (λ n. any (holds n) ss) (named r)) rejected accepted)))
+
+-- the lowest free slot takes the session, its line and its nodes
+abbrev pub opened : List ℕ → ℕ → ModeSend → List ℕ
+opened b l r = withSlot b (first isFree (slotsOf b)) (sessionSlot l r)
+
+-- what a mode send answers, and the table that it leaves: with its session, where the status is 0
+pub record Sent : Type 0 where
+  pub status : ℕ
+  pub slots : List ℕ
+
+unfoldable pub modeSend : List ℕ → List ℕ → ℕ → ModeSend → Sent
+modeSend b t l r =
+    let s = modeSendStatus (slotsOf b) t r in
+    record { status = s; slots = cond (eqb s accepted) (opened b l r) b }
 
 -- ---- finish a session
 
 -- closes it, in the lowest slot that has it, and tells its line; nothing where its number is not open
 pub record Finished : Type 0 where
   pub line : ℕ
-  pub slots : List Slot
+  pub slots : List ℕ
 
-unfoldable pub finish : List Slot → ℕ → Option Finished
-finish ss x =
-    let k = first (isNumbered x) ss in
-    cond (any (isNumbered x) ss) (some (record { line = getD ss k closedSlot .line; slots = set ss k closedSlot })) none
+unfoldable pub finish : List ℕ → ℕ → Option Finished
+finish b x =
+    let k = first (isNumbered x) (slotsOf b) in
+    cond (any (isNumbered x) (slotsOf b)) (some (record { line = slotAt b k .line; slots = withSlot b k closedSlot })) none
 
--- the slots that a finish leaves
-abbrev pub leftBy : Option Finished → List Slot → List Slot
-leftBy none ss = ss
-leftBy (some f) ss = f .slots
+-- the table that a finish leaves
+abbrev pub leftBy : Option Finished → List ℕ → List ℕ
+leftBy none b = b
+leftBy (some f) b = f .slots
 
 -- document 01's number of refusal
 abbrev pub notOpen : ℕ
@@ -196,8 +250,3 @@ told (some f) = onLine (f .line)
 abbrev pub toldBy : Owner → Told
 toldBy NotOpen = refused notOpen
 toldBy (Line l) = onLine l
-
--- what `finish` promises: what is told, and the slots; they stay as they were where the number is not open
-pub record Ends (ss : List Slot) (o : Option Finished) (e : Ended) : Type 0 where
-  pub told : toldBy (e .told) ≡ told o
-  pub slots : e .slots ≡ leftBy o ss

@@ -1,61 +1,50 @@
-// A mode send: the first status that applies, or a session opened (document 01, mode send).
-// The answer is that of specs/Sessions.antt: modeSend. What is legal stands in `targets`, the slots in `slots`.
-ghost use Prim.Native.Nat.{_≤_};
+// A mode send: the first status that applies, and a session opened (document 01, mode send).
+// Answers and tables are those of specs/Sessions.antt: modeSendStatus, opened. What is legal stands in `targets`, the slots in `slots`.
+ghost use Prim.Native.Nat.{min};
 ghost use mathlib.Core.Path.{_≡_};
 ghost use lib.ListN.{replicate};
 ghost use Rattle.sessions.specs.Search.{any, first};
-ghost use Rattle.sessions.specs.Sessions.{markBytes, isFree, holds, maxIndices, marked, sessionSlot, modeSend};
+ghost use Rattle.sessions.specs.Sessions.{markBytes, slotsOf, isFree, holds, maxIndices, marked, sessionSlot, modeSendStatus, opened};
 use crate::ModeSend;
-use crate::Sent;
 use crate::Slot;
 
-// A mode send on a line: the first status that applies, and where none does the lowest free slot takes the session.
-pub fn mode_send(slots: [Slot; crate::SLOTS], table: &[u8], line: u8, request: ModeSend) -> Sent
-    ensures { λ r. ⌜ r ≡ modeSend slots (now (table .entry)) line request ⌝ }
+// The first status that applies to a mode send.
+pub fn status(slots: &[u8; crate::TABLE], table: &[u8], request: ModeSend) -> u8
+    ensures { λ r. ⌜ r ≡ modeSendStatus (slotsOf (now (slots .entry))) (now (table .entry)) request ⌝ }
 {
     if !crate::targets::is_legal(table, request) {
-        return Sent {
-            slots: slots,
-            status: crate::ILLEGAL_PARAMETER,
-        };
+        return crate::ILLEGAL_PARAMETER;
     }
     let number = request.session;
     if crate::slots::first_numbered(slots, number) < crate::SLOTS {
-        return Sent {
-            slots: slots,
-            status: crate::SESSION_IN_USE,
-        };
+        return crate::SESSION_IN_USE;
     }
-    let k = first_free(slots);
-    if crate::SLOTS <= k {
-        return Sent {
-            slots: slots,
-            status: crate::NO_FREE_SLOT,
-        };
+    if crate::SLOTS <= first_free(slots) {
+        return crate::NO_FREE_SLOT;
     }
     let indices = request.indices;
     let count = request.count as usize;
     if any_held(slots, &indices[..count]) {
-        return Sent {
-            slots: slots,
-            status: crate::REJECTED,
-        };
+        return crate::REJECTED;
     }
-    let mut out = slots;
-    out[k] = session_slot(line, request);
-    Sent {
-        slots: out,
-        status: crate::ACCEPTED,
-    }
+    crate::ACCEPTED
+}
+
+// The lowest free slot takes the session of a mode send on a line.
+pub fn open_session(slots: &mut [u8; crate::TABLE], line: u8, request: ModeSend)
+    ensures { λ r. ⌜ now (slots .exit) ≡ opened (now (slots .entry)) line request ⌝ }
+{
+    let k = first_free(slots);
+    crate::slots::put_slot(slots, k, session_slot(line, request));
 }
 
 // The lowest free slot; `SLOTS` where there is none.
-fn first_free(slots: [Slot; crate::SLOTS]) -> usize
-    ensures { λ r. ⌜ r ≡ first isFree slots ⌝ }
+fn first_free(slots: &[u8; crate::TABLE]) -> usize
+    ensures { λ r. ⌜ r ≡ first isFree (slotsOf (now (slots .entry))) ⌝ }
 {
     let mut k = 0;
     while k < crate::SLOTS {
-        if !crate::slots::is_open(slots[k]) {
+        if !crate::slots::is_open(crate::slots::slot_at(slots, k)) {
             return k;
         }
         k += 1;
@@ -64,12 +53,12 @@ fn first_free(slots: [Slot; crate::SLOTS]) -> usize
 }
 
 // Whether some open session holds one of these nodes, and whether that of a slot does.
-fn any_held(slots: [Slot; crate::SLOTS], indices: &[u8]) -> bool
-    ensures { λ r. ⌜ r ≡ any (λ n. any (holds n) slots) (now (indices .entry)) ⌝ }
+fn any_held(slots: &[u8; crate::TABLE], indices: &[u8]) -> bool
+    ensures { λ r. ⌜ r ≡ any (λ n. any (holds n) (slotsOf (now (slots .entry)))) (now (indices .entry)) ⌝ }
 {
     let mut k = 0;
     while k < crate::SLOTS {
-        if holds_any(slots[k], indices) {
+        if holds_any(crate::slots::slot_at(slots, k), indices) {
             return true;
         }
         k += 1;
@@ -92,12 +81,11 @@ fn holds_any(slot: Slot, indices: &[u8]) -> bool
 
 // The slot of a new session.
 fn session_slot(line: u8, request: ModeSend) -> Slot
-    requires { ⌜ request .count ≤ maxIndices ⌝ }
     ensures { λ r. ⌜ r ≡ sessionSlot line request ⌝ }
 {
     let number = request.session;
     let indices = request.indices;
-    let count = request.count as usize;
+    let count = named(request.count);
     let nodes = marked(&indices[..count]);
     Slot {
         used: 1,
@@ -105,6 +93,17 @@ fn session_slot(line: u8, request: ModeSend) -> Slot
         number,
         nodes,
     }
+}
+
+// How many indices a count names: there are no more than `INDICES`.
+fn named(count: u8) -> usize
+    ensures { λ r. ⌜ r ≡ min maxIndices count ⌝ }
+{
+    let n = count as usize;
+    if crate::INDICES < n {
+        return crate::INDICES;
+    }
+    n
 }
 
 // The nodes that the indices name, a bit for each.

@@ -10,7 +10,7 @@ use Rattle.frame.specs.Reader.{State, plain, escaped, skipping, emptied, held}
 use Rattle.nodes.specs.declared.Field.{Field}
 use Rattle.nodes.specs.Table.{nodeCount, recordSize, typeField, nameField, orderField, placementField, variationField, fieldOf, recordOf, inUse}
 use Rattle.sessions.specs.declared.Slot.{Slot}
-use Rattle.sessions.specs.Sessions.{slotCount, closedSlot, isOpen}
+use Rattle.sessions.specs.Sessions.{slotCount, slotAt, isOpen}
 use Rattle.rules.specs.declared.Hub.{Hub}
 use Rattle.rules.specs.Hub.{lineCount, isLoggedIn}
 use Rattle.report.specs.Report.{hasOther}
@@ -48,7 +48,7 @@ readingLines k s = readingLine k (modeOf s) (held s) ∷ []
 unfoldable pub stateLines : Hub → List ℕ → List State → List (List ℕ)
 stateLines h t ss =
     (loginLine (map (isLoggedIn h) lines) ∷ [])
-    ++ linesBelow (λ k. slotLines k (getD (h .slots) k closedSlot)) slotCount
+    ++ linesBelow (λ k. slotLines k (slotAt (h .slots) k)) slotCount
     ++ linesBelow (nodeLines t) nodeCount
     ++ linesBelow (λ k. readingLines k (getD ss k emptied)) lineCount
     ++ (endLine ∷ [])

@@ -9,7 +9,8 @@ use Rattle.line.specs.declared.Reading.{Reading}
 use Rattle.frame.specs.Reader.{taken}
 use Rattle.nodes.specs.Table.{recordSize, bit, inUse}
 use Rattle.sessions.specs.declared.Slot.{Slot}
-use Rattle.sessions.specs.Sessions.{slotCount, closedSlot}
+use Rattle.sessions.specs.Sessions.{slotSize, sessionsSize, slotBytes, slotsOf}
+use Rattle.sessions.specs.Search.{below}
 use Rattle.rules.specs.declared.Hub.{Hub}
 use Rattle.text.specs.Text.{ascii, digit, decimalIn, decimal}
 use Rattle.text.specs.Appended.{appended}
@@ -25,7 +26,7 @@ session : ℕ → Slot
 session used = record { used = used; line = 3; number = 0x01A2; nodes = 0x80 ∷ replicate 24 0 }
 
 hub : Hub
-hub = record { password = []; logins = 0 ∷ 1 ∷ 2 ∷ 255 ∷ []; slots = session 0 ∷ session 2 ∷ session 1 ∷ replicate (slotCount - 3) closedSlot }
+hub = record { password = []; logins = 0 ∷ 1 ∷ 2 ∷ 255 ∷ []; slots = slotBytes (session 0) ++ slotBytes (session 2) ++ slotBytes (session 1) ++ replicate (sessionsSize - 3 * slotSize) 0 }
 
 -- two records, of which the second is in use, and the front of a third
 table : List ℕ
@@ -55,7 +56,7 @@ state : stateLines hub table (map taken readings)
     ∷ []
 unfolding session hub table readings node
     ascii digit decimalIn decimal hexPairs bytesWord hasOther bit flag loginLine nodeWord nodesBelow slotLine nodeLine modeWord readingLine endLine
-    linesBelow slotLines recordLines nodeLines modeOf readingLines stateLines
+    slotsOf below linesBelow slotLines recordLines nodeLines modeOf readingLines stateLines
 state = refl
 
 -- a line that does not fit is left out, and the next one is appended

@@ -25,7 +25,7 @@ abbrev opened : Slot
 opened = record { used = 1; line = 2; number = 0x0102; nodes = replicate sessions.markBytes 0 }
 
 abbrev hubWith : Slot → Hub
-hubWith s = record { password = replicate 32 0; logins = 0 ∷ 0 ∷ 1 ∷ 0 ∷ []; slots = s ∷ [] }
+hubWith s = record { password = replicate 32 0; logins = 0 ∷ 0 ∷ 1 ∷ 0 ∷ []; slots = sessions.slotBytes s }
 
 -- line 0 holds two bytes, line 3 one
 abbrev world : Hub → List ℕ → State → World
@@ -43,16 +43,16 @@ made w c = play w 1 (script.call c)
 -- refused calls change nothing: the whole buffer stays, whatever part of it was lent
 refused : map (made before) (script.start (replicate 32 5) 1 ∷ script.enrol 0 1 0 ∷ script.feed 0 512 (0xC0 ∷ []) 1 ∷ script.close 4 ∷ script.finish 0x0102 8 ∷ script.finish 0x0103 0 ∷ [])
     ≡ map (λ (text : List ℕ). answered text before) (ascii "refused 7\n" ∷ ascii "refused 7\n" ∷ ascii "refused 7\n" ∷ ascii "refused 8\n" ∷ ascii "refused 9\n" ∷ ascii "refused 13\n" ∷ [])
-unfolding play start enrol feed close finish callTold finishTold feedTold rules.notice bytesOf frame.wire frame.escape frame.framed frame.body xor.xorAll xor._⊕_ system.feed system.returned system.stateFor system.call system.decided sessions.finish search.any search.first ascii digit decimalIn decimal lineEnd refusedLine
+unfolding play start enrol feed close finish callTold finishTold feedTold rules.notice bytesOf frame.wire frame.escape frame.framed frame.body xor.xorAll xor._⊕_ system.feed system.returned system.stateFor system.call system.decided sessions.finish sessions.slotsOf sessions.withSlot search.below search.any search.first ascii digit decimalIn decimal lineEnd refusedLine
 refused = refl
 
 -- closing line 0 empties its reading and no other; finishing the session closes it and tells its line
 closed : made before (script.close 0) ≡ answered (ascii "done\n") (world (hubWith opened) (7 ∷ 8 ∷ []) emptied)
-unfolding play close callTold doneLine ascii
+unfolding play close sessions.closeBelow sessions.closeOne sessions.slotsOf search.below callTold doneLine ascii
 closed = refl
 
 finished : made before (script.finish 0x0102 9) ≡ answered (ascii "finished 2 reply C000050304010201C0\n") (world (hubWith sessions.closedSlot) (7 ∷ 8 ∷ []) (plain (0xC0 ∷ 0xDB ∷ [])))
-unfolding play finish finishTold rules.notice bytesOf sessions.finish search.any search.first frame.wire frame.escape frame.framed frame.body xor.xorAll xor._⊕_ ascii digit decimalIn decimal hexPairs bytesWord lineEnd finishedLine
+unfolding play finish finishTold rules.notice bytesOf sessions.finish sessions.slotsOf sessions.withSlot search.below search.any search.first frame.wire frame.escape frame.framed frame.body xor.xorAll xor._⊕_ ascii digit decimalIn decimal hexPairs bytesWord lineEnd finishedLine
 finished = refl
 
 -- what a feed tells: no outcome, a frame with the number of its data bytes, a packet refusal

@@ -7,7 +7,7 @@ ghost use lib.ListN.{getD};
 ghost use Rattle.text.specs.Appended.{Leaves};
 ghost use Rattle.frame.specs.Reader.{emptied, taken};
 ghost use Rattle.nodes.specs.Table.{nodeCount};
-ghost use Rattle.sessions.specs.Sessions.{slotCount, closedSlot};
+ghost use Rattle.sessions.specs.Sessions.{slotCount, slotAt};
 ghost use Rattle.rules.specs.Hub.{lineCount, isListed};
 ghost use Rattle.transcript.specs.Lines.{appendedAll, linesBelow};
 ghost use Rattle.transcript.specs.State.{lines, slotLines, recordLines, nodeLines, readingLines, stateLines};
@@ -31,7 +31,7 @@ pub(crate) fn show(
     let logins = logged_in(known);
     let slots = hub.slots;
     let first_slot = report::login_line(out, at, logins);
-    let first_node = show_slots(out, first_slot, slots);
+    let first_node = show_slots(out, first_slot, &slots);
     let first_reading = show_nodes(out, first_node, table);
     let last = show_readings(out, first_reading, readings);
     text::append(out, last, &report::END_LINE)
@@ -49,13 +49,13 @@ fn logged_in(logins: [u8; LINES]) -> [bool; LINES]
     ]
 }
 
-fn show_slots(out: &mut [u8], at: usize, slots: [Slot; SLOTS]) -> usize
-    ensures { λ r. ⌜ Leaves (appendedAll (now (out .entry)) at (linesBelow (λ k. slotLines k (getD slots k closedSlot)) slotCount)) (now (out .exit)) r ⌝ }
+fn show_slots(out: &mut [u8], at: usize, slots: &[u8; sessions::TABLE]) -> usize
+    ensures { λ r. ⌜ Leaves (appendedAll (now (out .entry)) at (linesBelow (λ k. slotLines k (slotAt (now (slots .entry)) k)) slotCount)) (now (out .exit)) r ⌝ }
 {
     let mut end = at;
     let mut k = 0;
     while k < SLOTS {
-        end = show_slot(out, end, k as u8, slots[k]);
+        end = show_slot(out, end, k as u8, sessions::slot_at(slots, k));
         k += 1;
     }
     end

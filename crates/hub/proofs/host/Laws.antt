@@ -5,8 +5,8 @@ use mathlib.Core.List.{List, [], _++_}
 use mathlib.Core.Option.{none, some}
 use lib.ListN.{length, drop}
 use borrow.Author.Tests.{lt-ltb, le-ltb}
-use Rattle.sessions.specs.declared.Slot.{Slot}
 use Rattle.sessions.specs.Sessions as sessions
+use Rattle.sessions.specs.SessionLaws.{finish-told}
 use Rattle.rules.specs.declared.Hub.{Hub}
 use Rattle.rules.specs.declared.CallRefusal.the-variants as cause
 use Rattle.rules.specs.declared.FinishAnswer.the-variants as answer
@@ -18,7 +18,13 @@ module _ (h : Hub) (x : ℕ) (space : List ℕ) where
   pub finish-not-open : sessions.finish (h .slots) x ≡ none → Finishes h x space (answer.Refused cause.NotOpen) h space
   finish-not-open o = record { answer = rw o; hub = rw o; room = rw o }
 
-  module _ (l : ℕ) (ss : List Slot) (o : sessions.finish (h .slots) x ≡ some (record { line = l; slots = ss })) where
+  module _ (l : ℕ) (told : sessions.told (sessions.finish (h .slots) x) ≡ sessions.onLine l) where
+    abbrev ss : List ℕ
+    ss = sessions.leftBy (sessions.finish (h .slots) x) (h .slots)
+
+    o : sessions.finish (h .slots) x ≡ some (record { line = l; slots = ss })
+    o = finish-told (h .slots) x l told
+
     -- one that is, in room shorter than the notice
     pub finish-short : length space < length (notice x) → Finishes h x space (answer.Refused cause.ShortRoom) h space
     finish-short e =

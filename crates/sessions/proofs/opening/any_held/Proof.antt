@@ -1,14 +1,15 @@
-use Prim.Native.Nat.{ℕ, _≤_, _<_, _-_}
-use mathlib.Core.Bool.{Bool}
-use mathlib.Core.List.{List}
-use mathlib.Core.Path.{_≡_, refl, sym, _∙_}
-use native.Mathlib.Omega.{arith}
-use lib.ListN.{length, drop}
 use borrow.Author.Needs.{needs}
-use Rattle.sessions.specs.declared.Slot.{Slot}
-use Rattle.sessions.specs.Search.{any}
+use Rattle.sessions.specs.Sessions.{slotCount, slotsOf, holds}
+use Rattle.sessions.specs.SlotLaws.{slots-count}
 use Rattle.sessions.specs.SearchLaws.{any-on, any-found, any-end, any-swap}
-use Rattle.sessions.specs.Sessions.{slotCount, holds}
+use Rattle.sessions.specs.Search.{any}
+use Rattle.sessions.specs.declared.Slot.{Slot}
+use lib.ListN.{length, drop}
+use mathlib.Core.List.{List}
+use mathlib.Core.Bool.{Bool}
+use native.Mathlib.Omega.{arith}
+use Prim.Native.Nat.{ℕ, _+_, _-_, _*_, _≤_, _<_}
+use mathlib.Core.Path.{_≡_, refl, sym, ap, _∙_}
 use Rattle.sessions.proofs.opening.any_held.Statement.{statement}
 use Rattle.sessions.proofs.opening.any_held.Tie as tie
 
@@ -18,28 +19,25 @@ holdsOne ns s = any (λ n. holds n s) ns
 
 -- What is to be found stands at the place or behind it.
 abbrev Inv-loop : tie.InvT-loop
-Inv-loop indices slots k₀ k = (k ≤ slotCount) × (length slots ≡ slotCount) × (any (holdsOne indices) slots ≡ any (holdsOne indices) (drop k slots))
+Inv-loop slots indices k₀ k = (k ≤ slotCount) × (any (holdsOne indices) (slotsOf slots) ≡ any (holdsOne indices) (drop k (slotsOf slots)))
 
 abbrev μ-loop : tie.MeasureT-loop
-μ-loop indices slots k₀ k = slotCount - k
+μ-loop slots indices k₀ k = slotCount - k
 
-within : (c : tie.In-loop Inv-loop μ-loop) → c .before .loop .k < length (c .before .before .before .args .t1)
-within c = omega arith
+within : (b : List ℕ) (k : ℕ) → k < slotCount → k < length (slotsOf b)
+within b k h = rw (slots-count b) h
 
 loop-holds : tie.Need-loop-holds Inv-loop μ-loop
-loop-holds c = (search needs, search needs, refl)
+loop-holds c = (search needs, refl)
 
-mul-holds-any : tie.Need-mul-holds-any Inv-loop μ-loop
-mul-holds-any c = search needs
-
-array-copy-out-holds-any : tie.Need-array-copy-out-holds-any Inv-loop μ-loop
-array-copy-out-holds-any c = search needs
+slot-at-requires : tie.Need-slot-at-requires Inv-loop μ-loop
+slot-at-requires c κs = search needs
 
 holds-any-requires : tie.Need-holds-any-requires Inv-loop μ-loop
 holds-any-requires c κs = search needs
 
 returns : tie.Need-returns Inv-loop μ-loop
-returns c = sym (any-swap (λ n s. holds n s) (c .before .before .before .before .before .before .args .indices .now) (c .before .before .before .before .before .before .args .t1) ∙ c .before .before .before .before .loop .inv .2 ∙ any-found _ _ _ _ (within (c .before .before .before)) (sym (c .before .holds-any .ensures) ∙ c .if1 .taken))
+returns c = sym (any-swap (λ n s. holds n s) (c .before .before .before .before .before .before .args .indices .now) (slotsOf (c .before .before .before .before .before .before .args .slots .now)) ∙ c .before .before .before .before .loop .inv .1 ∙ any-found _ _ _ _ (within (c .before .before .before .before .before .before .args .slots .now) _ (c .before .before .before .loop-test .taken)) (ap (holdsOne _) (sym (c .before .before .slot-at .ensures)) ∙ sym (c .before .holds-any .ensures) ∙ c .if1 .taken))
 
 add-k : tie.Need-add-k Inv-loop μ-loop
 add-k c = search needs
@@ -48,10 +46,10 @@ loop-less : tie.Need-loop-less Inv-loop μ-loop
 loop-less c = search needs
 
 loop-again : tie.Need-loop-again Inv-loop μ-loop
-loop-again c = (search needs, search needs, c .before .before .before .before .loop .inv .2 ∙ any-on _ _ _ _ (within (c .before .before .before)) (sym (c .before .holds-any .ensures) ∙ c .if1 .left))
+loop-again c = (search needs, c .before .before .before .before .loop .inv .1 ∙ any-on _ _ _ _ (within (c .before .before .before .before .before .before .args .slots .now) _ (c .before .before .before .loop-test .taken)) (ap (holdsOne _) (sym (c .before .before .slot-at .ensures)) ∙ sym (c .before .holds-any .ensures) ∙ c .if1 .left))
 
 returns-2 : tie.Need-returns-2 Inv-loop μ-loop
-returns-2 c = sym (any-swap (λ n s. holds n s) (c .before .before .before .args .indices .now) (c .before .before .before .args .t1) ∙ c .before .loop .inv .2 ∙ any-end _ (c .before .before .before .args .t1) (c .before .loop .k) (omega arith))
+returns-2 c = sym (any-swap (λ n s. holds n s) (c .before .before .before .args .indices .now) (slotsOf (c .before .before .before .args .slots .now)) ∙ c .before .loop .inv .1 ∙ any-end _ (slotsOf (c .before .before .before .args .slots .now)) (c .before .loop .k) (rw (slots-count (c .before .before .before .args .slots .now)) (c .loop-test .left)))
 
 pub any-held-spec : {M : Type 1} → statement M
 any-held-spec =
@@ -60,8 +58,7 @@ any-held-spec =
     Inv-loop
     μ-loop
     loop-holds
-    mul-holds-any
-    array-copy-out-holds-any
+    slot-at-requires
     holds-any-requires
     returns
     add-k

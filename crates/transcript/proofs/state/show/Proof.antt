@@ -33,7 +33,7 @@ same-length c = search needs
 returns : tie.Need-returns
 unfolding stateLines endLine ascii
 returns c =
-    let login = rw (c .before .before .before .before .before .before .before .before .before .before .before .before .before .before .before .before .before .before .before .before .before .before .logged-in .ensures) at (c .before .before .before .before .before .before .before .before .before .before .before .before .before .before .before .before .before .before .before .login-line .ensures) in
+    let login = rw (c .before .before .before .before .before .before .before .before .before .before .before .before .before .before .before .before .before .before .before .before .before .before .before .logged-in .ensures) at (c .before .before .before .before .before .before .before .before .before .before .before .before .before .before .before .before .before .before .before .before .login-line .ensures) in
     all-then _ _ _ _
     (all-then _ _ _ _
     (all-then _ _ _ _

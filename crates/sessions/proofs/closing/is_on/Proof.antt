@@ -1,0 +1,16 @@
+use mathlib.Core.Path.{_≡_, refl, sym, ap, _∙_}
+use borrow.Author.Needs.{needs}
+use Rattle.sessions.proofs.closing.is_on.Statement.{statement}
+use Rattle.sessions.proofs.closing.is_on.Tie as tie
+
+is-open-requires : tie.Need-is-open-requires
+is-open-requires c κs = search needs
+
+returns : tie.Need-returns
+returns c = simp (sym (c .before .before .is-open .ensures) ∙ c .before .if1 .taken)
+
+returns-2 : tie.Need-returns-2
+returns-2 c = simp (sym (c .before .is-open .ensures) ∙ c .if1 .left)
+
+pub is-on-spec : {M : Type 1} → statement M
+is-on-spec = tie.close (tie.spec is-open-requires returns returns-2)
