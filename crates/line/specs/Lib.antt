@@ -1,8 +1,13 @@
 pub mod Wire
 pub mod WireLaws
 pub mod Scan
+pub mod Places
 pub mod Reader
 pub mod Pieces
+pub mod Standing
+pub mod Placed
+pub mod PlacedPieces
+pub mod Reachable
 pub mod Answers
 pub mod Step
 pub mod Lent
