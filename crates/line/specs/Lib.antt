@@ -16,6 +16,14 @@ pub mod ScanLaws
 pub mod ReaderLaws
 pub mod PieceLaws
 pub mod ByPieces
+pub mod EveryLaws
+pub mod PlaceLaws
+pub mod StandingLaws
+pub mod PlacedLaws
+pub mod PlacedPieceLaws
+pub mod ReachableLaws
+pub mod FaultLaws
+pub mod PlacedByPieces
 pub mod AnswerLaws
 pub mod CallLaws
 pub mod HeldLaws
