@@ -12,6 +12,7 @@ pub mod Answers
 pub mod Step
 pub mod Lent
 pub mod ReaderVectors
+pub mod PlaceVectors
 pub mod ScanLaws
 pub mod ReaderLaws
 pub mod PieceLaws
