@@ -3,6 +3,7 @@ pub mod Frame
 pub mod Reader
 pub mod Places
 pub mod Placed
+pub mod PlacedReader
 pub mod Line
 pub mod Answers
 pub mod Writer
@@ -22,4 +23,5 @@ pub mod RoundTrip
 pub mod ChangeLaws
 pub mod DamageLaws
 pub mod PlaceLaws
+pub mod PlacedReaderLaws
 pub mod AnswerLaws
