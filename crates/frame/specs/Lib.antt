@@ -1,6 +1,9 @@
 pub mod Xor
 pub mod Frame
 pub mod Reader
+pub mod Places
+pub mod Placed
+pub mod PlacedReader
 pub mod Line
 pub mod Answers
 pub mod Writer
@@ -9,6 +12,7 @@ pub mod Judgements
 pub mod Lent
 pub mod Damage
 pub mod FrameVectors
+pub mod PlaceVectors
 pub mod XorLaws
 pub mod JudgeLaws
 pub mod WireLaws
@@ -18,4 +22,6 @@ pub mod EscapeLaws
 pub mod RoundTrip
 pub mod ChangeLaws
 pub mod DamageLaws
+pub mod PlaceLaws
+pub mod PlacedReaderLaws
 pub mod AnswerLaws
