@@ -49,7 +49,6 @@ use Rattle.demands.specs.Guard as guard
 use Rattle.demands.specs.Logins.{logged-exactly}
 use Rattle.sessions.specs.Search.{any as anySlot}
 use Rattle.sessions.specs.Sessions as sessions
-use Rattle.sessions.specs.Sessions.{slotCount}
 use Rattle.demands.specs.OneHolder.{free, one-holder}
 use Rattle.demands.specs.Feeds.{above-none}
 use Rattle.demands.specs.FeedListLaws.{list-kept}

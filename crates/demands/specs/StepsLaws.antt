@@ -3,12 +3,10 @@ use Prim.Native.Nat.{ℕ}
 use mathlib.Core.Path.{_≡_, refl, sym, ap, ap₂, _∙_}
 use mathlib.Core.List.{List, [], _∷_, map}
 use mathlib.Core.Bool.{Bool, true, false, cond, not, _&&_, true≢false}
-use mathlib.Core.Option.{Option, none, some, Option·none-ne-some}
-use native.Mathlib.Omega.{arith}
+use mathlib.Core.Option.{Option, none, some}
 use lib.ListN.{length, set, List·getD-map}
 use lib.Dec.{eqb, ltb}
-use Rattle.line.specs.declared.Reading.{Reading}
-use Rattle.frame.specs.Reader.{State, emptiedReading, read, taken}
+use Rattle.frame.specs.Reader.{State, read, taken}
 use Rattle.sessions.specs.Search.{any}
 use Rattle.sessions.specs.Sessions as sessions
 use Rattle.feeds.specs.System as system
@@ -21,7 +19,7 @@ use Rattle.rules.specs.PromiseLaws.{feeds-promise}
 use Rattle.demands.specs.Kept.{start-any, enrol-any, close-any, finish-any, feed-any}
 use Rattle.demands.specs.Calls as calls
 use Rattle.demands.specs.Calls.{World, isPassword, unlessRefused, after, afterAll}
-use Rattle.demands.specs.Steps.{Memory, Step, start, enrol, close, finish, feed, Return, started, enrolled, closed, finished, fed, lineRecord, Made, starts, enrols, closes, finishes, feeds, Steps, stop, next, refusal, finishTells, feedTells, refusalTold, isRefusal, isRefused, isPrivileged, Unprivileged, loggedBy, loggedByAll, callOf}
+use Rattle.demands.specs.Steps.{Memory, Step, start, enrol, close, finish, feed, Return, lineRecord, Made, starts, enrols, closes, finishes, feeds, Steps, stop, next, refusal, finishTells, feedTells, refusalTold, isRefusal, isRefused, isPrivileged, Unprivileged, loggedBy, loggedByAll, callOf}
 
 -- ---- what is left
 

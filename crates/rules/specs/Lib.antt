@@ -6,7 +6,7 @@ pub mod Lengths
 pub mod Frames
 pub mod Longest
 pub mod Examples
-pub mod Replies
+pub mod RequestVectors
 pub mod Answers
 pub mod PromiseLaws
 pub mod CallExamples

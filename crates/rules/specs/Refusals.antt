@@ -10,7 +10,7 @@ use Rattle.frame.specs.Xor as xor
 use Rattle.line.specs.declared.Reading.{Reading}
 use Rattle.frame.specs.Reader.{State, emptied, read, taken}
 use lib.Dec.{ltb, eqb}
-use lib.ListN.{length, drop, getD, set, replicate}
+use lib.ListN.{length, drop, replicate}
 use borrow.Author.Tests.{eq-eqb, eqb-true, ne-eqb, lt-ltb, ltb-true, le-ltb}
 use Rattle.nodes.specs.Table.{tableSize, nodeCount, inUse, enrolled}
 use Rattle.nodes.specs.TableLaws.{used-below}

@@ -5,13 +5,13 @@ use mathlib.Core.Path.{_≡_, refl}
 use mathlib.Core.List.{List, [], _∷_, _++_, map}
 use mathlib.Core.Bool.{Bool, true, false}
 use mathlib.Core.Option.{none, some}
-use lib.ListN.{length, take, drop, replicate}
+use lib.ListN.{length, drop, replicate}
 use Rattle.nodes.specs.Table.{inUse, bit}
 use Rattle.sessions.specs.declared.Slot.{Slot}
 use Rattle.sessions.specs.declared.ModeSend.{ModeSend}
 use Rattle.sessions.specs.declared.Owner.the-variants.{Line, NotOpen}
 use Rattle.sessions.specs.Search.{any, first, below}
-use Rattle.sessions.specs.Sessions.{slotCount, targetCount, markBytes, slotSize, sessionsSize, marksAt, slotsOf, slotBytes, withSlot, closedSlot, slotAt, isFree, isNumbered, isOn, holds, holders, closeOne, closeBelow, closeAll, closeLine, holdsRemoved, closeRemoved, modeSendSize, maxIndices, modeSendOf, targetsLegal, isLegal, withBit, marked, sessionSlot, modeSendStatus, modeSend, finish, refused, onLine, told, toldBy}
+use Rattle.sessions.specs.Sessions.{slotCount, targetCount, markBytes, slotSize, sessionsSize, marksAt, slotsOf, slotBytes, withSlot, closedSlot, isFree, isNumbered, isOn, holds, holders, closeOne, closeBelow, closeAll, closeLine, holdsRemoved, closeRemoved, modeSendSize, maxIndices, modeSendOf, targetsLegal, isLegal, withBit, marked, sessionSlot, modeSendStatus, modeSend, finish, refused, onLine, told, toldBy}
 
 unfoldable nodes : List ℕ
 nodes = replicate (20 * 72) 1

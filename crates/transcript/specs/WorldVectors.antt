@@ -1,7 +1,7 @@
 -- Lines of a script played on small worlds: the first of a table buffer's two bytes is lent, or none, and session 0102 of line 2 is open.
 use Prim.Native.Nat.{ℕ}
 use mathlib.Core.Path.{_≡_, refl}
-use mathlib.Core.List.{List, [], _∷_, _++_, map}
+use mathlib.Core.List.{List, [], _∷_, map}
 use mathlib.Core.Option.{none, some}
 use lib.ListN.{replicate}
 use Rattle.frame.specs.Frame as frame

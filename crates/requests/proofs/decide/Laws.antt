@@ -8,7 +8,7 @@ use Rattle.memory.specs.Octets.{same}
 use Rattle.nodes.specs.Table.{nameField, orderAndPlacement, nodeStatus, setName, setOrderAndPlacement, setVariation}
 use Rattle.nodes.specs.TableLaws.{setField-status}
 use Rattle.sessions.specs.Sessions as sessions
-use Rattle.replies.specs.Messages.{Message, passwordEntered, passwordChanged, variationSet, nameSet, orderAndPlacementSet}
+use Rattle.replies.specs.Messages.{passwordEntered, passwordChanged, variationSet, nameSet, orderAndPlacementSet}
 use Rattle.replies.specs.declared.Reply.the-variants as reply
 use Rattle.rules.specs.declared.Hub.{Hub}
 use Rattle.rules.specs.Hub as rules

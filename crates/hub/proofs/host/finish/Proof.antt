@@ -5,7 +5,7 @@ use Rattle.rules.specs.Hub.{notice}
 use Rattle.replies.specs.ReplyLaws.{writeAll-done, writeAll-refused}
 use Rattle.hub.proofs.host.Laws.{finish-not-open, finish-short, finish-done}
 use native.Mathlib.Omega.{arith}
-use mathlib.Core.Path.{_≡_, refl, sym, ap, _∙_}
+use mathlib.Core.Path.{sym, ap, _∙_}
 use borrow.Author.Needs.{needs}
 use Rattle.hub.proofs.host.finish.Statement.{statement}
 use Rattle.hub.proofs.host.finish.Tie as tie
@@ -57,20 +57,29 @@ same-length c = search needs
 
 returns-2 : tie.Need-returns-2
 unfolding notice
-returns-2 c = let w = c .before .before .before .before .before .before .before .before .write .ensures in let x = writeAll-done _ _ _ (sym (w .answer) ∙ ap told (c .before .before .before .before .len .given .1)) in rw (c .with-slots .ensures, c .before .finish .ensures) (finish-done _ _ _ _ (sym (c .before .before .before .before .before .before .before .before .before .before .before .before .before .before .line-of .ensures) ∙ ap toldBy (c .before .before .before .before .before .before .before .before .before .before .before .before .line .given .1)) _ _ (x .1) (x .0) (w .room ∙ rw (← x .0) (x .2)))
+returns-2 c =
+    let w = c .before .before .before .before .before .before .before .before .write .ensures in
+    let x = writeAll-done _ _ _ (sym (w .answer) ∙ ap told (c .before .before .before .before .len .given .1)) in
+    rw (c .with-slots .ensures, c .before .finish .ensures) (finish-done _ _ _ _ (sym (c .before .before .before .before .before .before .before .before .before .before .before .before .before .before .line-of .ensures) ∙ ap toldBy (c .before .before .before .before .before .before .before .before .before .before .before .before .line .given .1)) _ _ (x .1) (x .0) (w .room ∙ rw (← x .0) (x .2)))
 
 same-length-2 : tie.Need-same-length-2
 same-length-2 c = search needs
 
 returns-3 : tie.Need-returns-3
 unfolding notice
-returns-3 c = let w = c .before .before .before .before .before .write .ensures in let x = writeAll-refused _ _ _ (sym (w .answer) ∙ ap told (c .before .enum-told2 .given .1)) in rw (c .refused2 .ensures, w .room ∙ x .2) (finish-short _ _ _ _ (sym (c .before .before .before .before .before .before .before .before .before .before .before .line-of .ensures) ∙ ap toldBy (c .before .before .before .before .before .before .before .before .before .line .given .1)) (x .1))
+returns-3 c =
+    let w = c .before .before .before .before .before .write .ensures in
+    let x = writeAll-refused _ _ _ (sym (w .answer) ∙ ap told (c .before .enum-told2 .given .1)) in
+    rw (c .refused2 .ensures, w .room ∙ x .2) (finish-short _ _ _ _ (sym (c .before .before .before .before .before .before .before .before .before .before .before .line-of .ensures) ∙ ap toldBy (c .before .before .before .before .before .before .before .before .before .line .given .1)) (x .1))
 
 same-length-3 : tie.Need-same-length-3
 same-length-3 c = search needs
 
 returns-4 : tie.Need-returns-4
-returns-4 c = let w = c .before .before .before .before .before .write .ensures in let x = writeAll-refused _ _ _ (sym (w .answer) ∙ ap told (c .before .enum-told3 .given .1)) in absurd (omega (arith, x .0))
+returns-4 c =
+    let w = c .before .before .before .before .before .write .ensures in
+    let x = writeAll-refused _ _ _ (sym (w .answer) ∙ ap told (c .before .enum-told3 .given .1)) in
+    absurd (omega (arith, x .0))
 
 pub finish-spec : {M : Type 1} → statement M
 finish-spec =

@@ -1,7 +1,7 @@
 use Rattle.rules.specs.Hub.{respond}
 use Rattle.directory.specs.Lookup.{errorOf}
 use Rattle.requests.proofs.decide.Laws.{failed-decides}
-use mathlib.Core.Path.{_≡_, refl, sym, ap, _∙_}
+use mathlib.Core.Path.{sym, ap, _∙_}
 use borrow.Author.Needs.{needs}
 use Rattle.requests.proofs.decide.decide.Statement.{statement}
 use Rattle.requests.proofs.decide.decide.Tie as tie

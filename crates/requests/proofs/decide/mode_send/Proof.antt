@@ -1,4 +1,3 @@
-use mathlib.Core.Path.{_≡_, refl, sym, ap, _∙_}
 use borrow.Author.Needs.{needs}
 use Rattle.requests.proofs.decide.mode_send.Statement.{statement}
 use Rattle.requests.proofs.decide.mode_send.Tie as tie

@@ -1,9 +1,9 @@
 use Rattle.sessions.specs.Sessions.{modeSendSize, modeSendOf}
 use Rattle.memory.specs.WroteLaws.{sets-whole}
 use lib.ListN.{replicate}
-use Prim.Native.Nat.{ℕ, _+_, _-_}
+use Prim.Native.Nat.{ℕ, _-_}
 use mathlib.Core.List.{List}
-use mathlib.Core.Path.{_≡_, refl, sym, ap, _∙_}
+use mathlib.Core.Path.{ap, _∙_}
 use borrow.Author.Needs.{needs}
 use Rattle.requests.proofs.decide.mode_send_of.Statement.{statement}
 use Rattle.requests.proofs.decide.mode_send_of.Tie as tie
@@ -18,7 +18,9 @@ mode-send-of-requires : tie.Need-mode-send-of-requires
 mode-send-of-requires c κs = search needs
 
 returns : tie.Need-returns
-returns c = let whole = c .before .before .copy .ensures ∙ sets-whole (replicate modeSendSize 0) (c .before .before .before .before .before .args .payload .now) (c .before .before .before .before .before .pre) in c .mode-send-of .ensures ∙ ap (λ (d : List ℕ). modeSendOf d) whole
+returns c =
+    let whole = c .before .before .copy .ensures ∙ sets-whole (replicate modeSendSize 0) (c .before .before .before .before .before .args .payload .now) (c .before .before .before .before .before .pre) in
+    c .mode-send-of .ensures ∙ ap (λ (d : List ℕ). modeSendOf d) whole
 
 pub mode-send-of-spec : {M : Type 1} → statement M
 mode-send-of-spec =

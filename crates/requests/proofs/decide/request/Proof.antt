@@ -5,9 +5,9 @@ use Rattle.directory.specs.Lookup.{find}
 use Rattle.directory.specs.Directory.{directory}
 use Rattle.requests.proofs.decide.Laws.{failed-decides, entered-decides, changed-decides, varied-decides, named-decides, placed-decides, removed-decides, zeroed-decides, sent-decides}
 use borrow.Author.Tests.{ne-eqb}
-use Prim.Native.Nat.{ℕ, _+_, _-_}
+use Prim.Native.Nat.{_+_, _-_}
 use native.Mathlib.Omega.{arith}
-use mathlib.Core.Path.{_≡_, refl, sym, ap, _∙_}
+use mathlib.Core.Path.{refl}
 use borrow.Author.Needs.{needs}
 use Rattle.requests.proofs.decide.request.Statement.{statement}
 use Rattle.requests.proofs.decide.request.Tie as tie
@@ -23,14 +23,18 @@ part-password-status-start c = search needs
 
 part-password-status-end : tie.Need-part-password-status-end
 unfolding find directory
-part-password-status-end c = let n = fits-fixed 0x3002 (passwordSize + passwordSize) _ refl (rw (c .before .match .keys2) at (c .before .before .before .before .pre)) in omega (arith, n)
+part-password-status-end c =
+    let n = fits-fixed 0x3002 (passwordSize + passwordSize) _ refl (rw (c .before .match .keys2) at (c .before .before .before .before .pre)) in
+    omega (arith, n)
 
 password-status-requires-2 : tie.Need-password-status-requires-2
 password-status-requires-2 c κs = search needs
 
 shared-slice-read-t19 : tie.Need-shared-slice-read-t19
 unfolding find directory
-shared-slice-read-t19 c = let n = fits-fixed 0x0200 1 _ refl (rw (c .before .match .keys3) at (c .before .before .before .before .pre)) in omega (arith, n)
+shared-slice-read-t19 c =
+    let n = fits-fixed 0x0200 1 _ refl (rw (c .before .match .keys3) at (c .before .before .before .before .pre)) in
+    omega (arith, n)
 
 set-variation-requires : tie.Need-set-variation-requires
 unfolding find directory
@@ -38,14 +42,18 @@ set-variation-requires c κs = fits-fixed 0x0206 2 _ refl (rw (c .match .keys4) 
 
 shared-slice-read-set-name : tie.Need-shared-slice-read-set-name
 unfolding find directory
-shared-slice-read-set-name c = let n = fits-fixed 0x0208 65 _ refl (rw (c .before .match .keys5) at (c .before .before .before .before .pre)) in omega (arith, n)
+shared-slice-read-set-name c =
+    let n = fits-fixed 0x0208 65 _ refl (rw (c .before .match .keys5) at (c .before .before .before .before .pre)) in
+    omega (arith, n)
 
 set-name-requires : tie.Need-set-name-requires
 set-name-requires c κs = search needs
 
 shared-slice-read-set-order-and-placement : tie.Need-shared-slice-read-set-order-and-placement
 unfolding find directory
-shared-slice-read-set-order-and-placement c = let n = fits-fixed 0x020D 4 _ refl (rw (c .before .match .keys6) at (c .before .before .before .before .pre)) in omega (arith, n)
+shared-slice-read-set-order-and-placement c =
+    let n = fits-fixed 0x020D 4 _ refl (rw (c .before .match .keys6) at (c .before .before .before .before .pre)) in
+    omega (arith, n)
 
 set-order-and-placement-requires : tie.Need-set-order-and-placement-requires
 set-order-and-placement-requires c κs = search needs
@@ -72,11 +80,15 @@ returns-4 c = λ ls. rw (c .before .match .keys4, c .set-variation .ensures) (va
 
 returns-5 : tie.Need-returns-5
 unfolding request find directory
-returns-5 c = λ ls. let n = fits-fixed 0x0208 65 _ refl (rw (c .before .before .match .keys5) at (c .before .before .before .before .before .pre)) in rw (c .before .before .match .keys5, c .set-name .ensures) (named-decides _ _ _ _ (omega (arith, n)))
+returns-5 c = λ ls.
+    let n = fits-fixed 0x0208 65 _ refl (rw (c .before .before .match .keys5) at (c .before .before .before .before .before .pre)) in
+    rw (c .before .before .match .keys5, c .set-name .ensures) (named-decides _ _ _ _ (omega (arith, n)))
 
 returns-6 : tie.Need-returns-6
 unfolding request find directory
-returns-6 c = λ ls. let n = fits-fixed 0x020D 4 _ refl (rw (c .before .before .match .keys6) at (c .before .before .before .before .before .pre)) in rw (c .before .before .match .keys6, c .set-order-and-placement .ensures) (placed-decides _ _ _ _ (omega (arith, n)))
+returns-6 c = λ ls.
+    let n = fits-fixed 0x020D 4 _ refl (rw (c .before .before .match .keys6) at (c .before .before .before .before .before .pre)) in
+    rw (c .before .before .match .keys6, c .set-order-and-placement .ensures) (placed-decides _ _ _ _ (omega (arith, n)))
 
 returns-7 : tie.Need-returns-7
 unfolding request
@@ -92,7 +104,9 @@ returns-9 c = λ ls. rw (c .before .match .keys9, c .mode-send .ensures) (sent-d
 
 returns-10 : tie.Need-returns-10
 unfolding request
-returns-10 c = λ ls. let n = c .match .rest in rw (ne-eqb _ _ (n .0 .0 .0 .0 .0 .0 .0 .0 .1), ne-eqb _ _ (n .0 .0 .0 .0 .0 .0 .0 .1), ne-eqb _ _ (n .0 .0 .0 .0 .0 .0 .1), ne-eqb _ _ (n .0 .0 .0 .0 .0 .1), ne-eqb _ _ (n .0 .0 .0 .0 .1), ne-eqb _ _ (n .0 .0 .0 .1), ne-eqb _ _ (n .0 .0 .1), ne-eqb _ _ (n .0 .1), ne-eqb _ _ (n .1)) (failed-decides _ _ _ _ _)
+returns-10 c = λ ls.
+    let n = c .match .rest in
+    rw (ne-eqb _ _ (n .0 .0 .0 .0 .0 .0 .0 .0 .1), ne-eqb _ _ (n .0 .0 .0 .0 .0 .0 .0 .1), ne-eqb _ _ (n .0 .0 .0 .0 .0 .0 .1), ne-eqb _ _ (n .0 .0 .0 .0 .0 .1), ne-eqb _ _ (n .0 .0 .0 .0 .1), ne-eqb _ _ (n .0 .0 .0 .1), ne-eqb _ _ (n .0 .0 .1), ne-eqb _ _ (n .0 .1), ne-eqb _ _ (n .1)) (failed-decides _ _ _ _ _)
 
 pub request-spec : {M : Type 1} → statement M
 request-spec =

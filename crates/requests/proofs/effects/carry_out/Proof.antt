@@ -3,9 +3,9 @@ use Rattle.rules.specs.Hub.{passwordSize}
 use Rattle.memory.specs.WroteLaws.{rest, sets-whole}
 use lib.ListN.{length, drop, length-drop}
 use borrow.Author.Tests.{eq-eqb, ne-eqb}
-use Prim.Native.Nat.{ℕ, _+_, _-_}
+use Prim.Native.Nat.{_-_}
 use native.Mathlib.Omega.{arith}
-use mathlib.Core.Path.{_≡_, refl, sym, ap, _∙_}
+use mathlib.Core.Path.{_≡_, ap, _∙_}
 use borrow.Author.Needs.{needs}
 use Rattle.requests.proofs.effects.carry_out.Statement.{statement}
 use Rattle.requests.proofs.effects.carry_out.Tie as tie
@@ -26,10 +26,14 @@ enum-known-reply-2 : tie.Need-enum-known-reply-2
 enum-known-reply-2 c = search needs
 
 sub-copy : tie.Need-sub-copy
-sub-copy c = let k = rw (c .before .before .before .reply2 .given .1) at (c .before .before .before .before .before .before .before .pre .1) in omega (arith, k)
+sub-copy c =
+    let k = rw (c .before .before .before .reply2 .given .1) at (c .before .before .before .before .before .before .before .pre .1) in
+    omega (arith, k)
 
 part-copy-start : tie.Need-part-copy-start
-part-copy-start c = let k = rw (c .before .before .before .reply2 .given .1) at (c .before .before .before .before .before .before .before .pre .1) in omega (arith, k)
+part-copy-start c =
+    let k = rw (c .before .before .before .reply2 .given .1) at (c .before .before .before .before .before .before .before .pre .1) in
+    omega (arith, k)
 
 part-copy-end : tie.Need-part-copy-end
 part-copy-end c = search needs
@@ -53,10 +57,14 @@ enum-known-reply-4 : tie.Need-enum-known-reply-4
 enum-known-reply-4 c = search needs
 
 sub-set-name : tie.Need-sub-set-name
-sub-set-name c = let k = rw (c .before .before .reply4 .given .1) at (c .before .before .before .before .before .before .pre .1) in omega (arith, k)
+sub-set-name c =
+    let k = rw (c .before .before .reply4 .given .1) at (c .before .before .before .before .before .before .pre .1) in
+    omega (arith, k)
 
 part-set-name-start : tie.Need-part-set-name-start
-part-set-name-start c = let k = rw (c .before .before .reply4 .given .1) at (c .before .before .before .before .before .before .pre .1) in omega (arith, k)
+part-set-name-start c =
+    let k = rw (c .before .before .reply4 .given .1) at (c .before .before .before .before .before .before .pre .1) in
+    omega (arith, k)
 
 part-set-name-end : tie.Need-part-set-name-end
 part-set-name-end c = search needs
@@ -68,10 +76,14 @@ enum-known-reply-5 : tie.Need-enum-known-reply-5
 enum-known-reply-5 c = search needs
 
 sub-set-order-and-placement : tie.Need-sub-set-order-and-placement
-sub-set-order-and-placement c = let k = rw (c .before .before .reply5 .given .1) at (c .before .before .before .before .before .before .pre .1) in omega (arith, k)
+sub-set-order-and-placement c =
+    let k = rw (c .before .before .reply5 .given .1) at (c .before .before .before .before .before .before .pre .1) in
+    omega (arith, k)
 
 part-set-order-and-placement-start : tie.Need-part-set-order-and-placement-start
-part-set-order-and-placement-start c = let k = rw (c .before .before .reply5 .given .1) at (c .before .before .before .before .before .before .pre .1) in omega (arith, k)
+part-set-order-and-placement-start c =
+    let k = rw (c .before .before .reply5 .given .1) at (c .before .before .before .before .before .before .pre .1) in
+    omega (arith, k)
 
 part-set-order-and-placement-end : tie.Need-part-set-order-and-placement-end
 part-set-order-and-placement-end c = search needs
@@ -101,7 +113,9 @@ enum-known-reply-6 : tie.Need-enum-known-reply-6
 enum-known-reply-6 c = search needs
 
 mode-send-of-requires : tie.Need-mode-send-of-requires
-mode-send-of-requires c κs = let k = rw (c .before .before .before .reply6 .given .1) at (c .before .before .before .before .before .before .before .pre .1) in k
+mode-send-of-requires c κs =
+    let k = rw (c .before .before .before .reply6 .given .1) at (c .before .before .before .before .before .before .before .pre .1) in
+    k
 
 open-session-requires : tie.Need-open-session-requires
 open-session-requires c κs = search needs
@@ -122,7 +136,13 @@ returns-4 : tie.Need-returns-4
 returns-4 c = rw (c .before .before .reply .given .1, ne-eqb _ _ (c .if1 .left))
 
 returns-5 : tie.Need-returns-5
-returns-5 c = let k = rw (c .before .before .before .before .before .reply2 .given .1) at (c .before .before .before .before .before .before .before .before .before .pre .1) in let d = c .before .before .before .before .before .before .before .before .before .args .payload .now in let p = c .before .before .before .before .before .before .before .before .before .args .password .now in let long : length p ≡ passwordSize = search needs in let stored = c .copy .ensures ∙ ap (sets p 0) (rest d passwordSize) ∙ sets-whole p (drop passwordSize d) (rw (length-drop passwordSize d) (omega (arith, k, long))) in rw (c .before .before .before .before .before .reply2 .given .1, eq-eqb _ _ (c .before .before .before .if2 .taken), stored)
+returns-5 c =
+    let k = rw (c .before .before .before .before .before .reply2 .given .1) at (c .before .before .before .before .before .before .before .before .before .pre .1) in
+    let d = c .before .before .before .before .before .before .before .before .before .args .payload .now in
+    let p = c .before .before .before .before .before .before .before .before .before .args .password .now in
+    let long : length p ≡ passwordSize = search needs in
+    let stored = c .copy .ensures ∙ ap (sets p 0) (rest d passwordSize) ∙ sets-whole p (drop passwordSize d) (rw (length-drop passwordSize d) (omega (arith, k, long))) in
+    rw (c .before .before .before .before .before .reply2 .given .1, eq-eqb _ _ (c .before .before .before .if2 .taken), stored)
 
 returns-6 : tie.Need-returns-6
 returns-6 c = rw (c .before .before .reply2 .given .1, ne-eqb _ _ (c .if2 .left))

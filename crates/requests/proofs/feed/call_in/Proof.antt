@@ -4,7 +4,6 @@ use Rattle.requests.specs.Answers.{readingAt}
 use Rattle.requests.proofs.feed.Laws.{refused-feeds}
 use lib.ListN.{length}
 use native.Mathlib.Omega.{arith}
-use mathlib.Core.Path.{_≡_, refl, sym, ap, _∙_}
 use borrow.Author.Needs.{needs}
 use Rattle.requests.proofs.feed.call_in.Statement.{statement}
 use Rattle.requests.proofs.feed.call_in.Tie as tie

@@ -2,10 +2,9 @@ use Rattle.frame.specs.Writer.{told}
 use Rattle.frame.specs.Answers.{answerOf}
 use Rattle.replies.specs.ReplyLaws.{writeAll-done, writeAll-refused}
 use Rattle.requests.proofs.feed.Laws.{data-bounded, short-feeds, told-feeds}
-use lib.ListN.{length}
-use Prim.Native.Nat.{ℕ, _+_, _-_}
+use Prim.Native.Nat.{_+_, _-_}
 use native.Mathlib.Omega.{arith}
-use mathlib.Core.Path.{_≡_, refl, sym, ap, _∙_}
+use mathlib.Core.Path.{_≡_, sym, ap, _∙_}
 use borrow.Author.Needs.{needs}
 use Rattle.requests.proofs.feed.serve.Statement.{statement}
 use Rattle.requests.proofs.feed.serve.Tie as tie
@@ -65,7 +64,13 @@ same-length-2 : tie.Need-same-length-2
 same-length-2 c = search needs
 
 returns : tie.Need-returns
-returns c = let w = c .before .before .before .before .before .before .before .before .before .before .before .before .before .before .before .before .write .ensures in let x = writeAll-done _ _ _ (sym (w .answer) ∙ ap told (c .before .before .before .before .before .before .before .before .before .before .before .before .len .given .1)) in let n = c .before .before .before .before .before .before .before .before .before .before .data-len .result in let e : 4 + n - 4 ≡ n = omega arith in let done = rw (e, c .before .before .before .before .before .before .before .before .before .before .data-len .ensures) at (c .before .before .before .carry-out .ensures) in rw (c .told .ensures) (told-feeds _ _ _ _ _ _ (answerOf _ (c .before .before .before .before .before .before .before .before .before .before .before .before .before .before .before .before .before .before .before .before .before .before .before .before .before .before .before .before .read-in .result)) (c .before .before .before .before .before .before .before .before .before .before .before .before .before .before .before .before .before .before .before .decide-outcome .result) (c .before .before .before .before .before .before .before .before .before .before .before .before .before .before .before .before .before .before .before .before .before .before .before .before .before .before .before .before .before .before .before .before .before .before .pre .0) (omega (arith, c .before .before .before .before .before .before .before .before .before .before .before .before .before .before .before .before .before .before .before .before .before .before .before .before .before .before .before .before .before .before .before .before .before .before .pre .1)) (c .before .before .before .before .before .before .before .before .before .before .before .before .before .before .before .before .before .before .before .before .before .before .before .before .before .before .before .before .read-in .ensures) (c .before .before .before .before .before .before .before .before .before .before .before .before .before .before .before .before .before .before .before .decide-outcome .ensures) _ _ _ _ (x .1) (x .0) done (w .room ∙ rw (← x .0) (x .2)))
+returns c =
+    let w = c .before .before .before .before .before .before .before .before .before .before .before .before .before .before .before .before .write .ensures in
+    let x = writeAll-done _ _ _ (sym (w .answer) ∙ ap told (c .before .before .before .before .before .before .before .before .before .before .before .before .len .given .1)) in
+    let n = c .before .before .before .before .before .before .before .before .before .before .data-len .result in
+    let e : 4 + n - 4 ≡ n = omega arith in
+    let done = rw (e, c .before .before .before .before .before .before .before .before .before .before .data-len .ensures) at (c .before .before .before .carry-out .ensures) in
+    rw (c .told .ensures) (told-feeds _ _ _ _ _ _ (answerOf _ (c .before .before .before .before .before .before .before .before .before .before .before .before .before .before .before .before .before .before .before .before .before .before .before .before .before .before .before .before .read-in .result)) (c .before .before .before .before .before .before .before .before .before .before .before .before .before .before .before .before .before .before .before .decide-outcome .result) (c .before .before .before .before .before .before .before .before .before .before .before .before .before .before .before .before .before .before .before .before .before .before .before .before .before .before .before .before .before .before .before .before .before .before .pre .0) (omega (arith, c .before .before .before .before .before .before .before .before .before .before .before .before .before .before .before .before .before .before .before .before .before .before .before .before .before .before .before .before .before .before .before .before .before .before .pre .1)) (c .before .before .before .before .before .before .before .before .before .before .before .before .before .before .before .before .before .before .before .before .before .before .before .before .before .before .before .before .read-in .ensures) (c .before .before .before .before .before .before .before .before .before .before .before .before .before .before .before .before .before .before .before .decide-outcome .ensures) _ _ _ _ (x .1) (x .0) done (w .room ∙ rw (← x .0) (x .2)))
 
 same-length-3 : tie.Need-same-length-3
 same-length-3 c = search needs
@@ -74,7 +79,10 @@ same-length-4 : tie.Need-same-length-4
 same-length-4 c = search needs
 
 returns-2 : tie.Need-returns-2
-returns-2 c = let w = c .before .before .before .before .before .write .ensures in let x = writeAll-refused _ _ _ (sym (w .answer) ∙ ap told (c .before .enum-told .given .1)) in rw (c .refused .ensures, w .room ∙ x .2) (short-feeds _ _ _ _ _ _ (answerOf _ (c .before .before .before .before .before .before .before .before .before .before .before .before .before .before .before .before .before .read-in .result)) (c .before .before .before .before .before .before .before .before .decide-outcome .result) (c .before .before .before .before .before .before .before .before .before .before .before .before .before .before .before .before .before .before .before .before .before .before .before .pre .0) (omega (arith, c .before .before .before .before .before .before .before .before .before .before .before .before .before .before .before .before .before .before .before .before .before .before .before .pre .1)) (c .before .before .before .before .before .before .before .before .before .before .before .before .before .before .before .before .before .read-in .ensures) (c .before .before .before .before .before .before .before .before .decide-outcome .ensures) (x .1))
+returns-2 c =
+    let w = c .before .before .before .before .before .write .ensures in
+    let x = writeAll-refused _ _ _ (sym (w .answer) ∙ ap told (c .before .enum-told .given .1)) in
+    rw (c .refused .ensures, w .room ∙ x .2) (short-feeds _ _ _ _ _ _ (answerOf _ (c .before .before .before .before .before .before .before .before .before .before .before .before .before .before .before .before .before .read-in .result)) (c .before .before .before .before .before .before .before .before .decide-outcome .result) (c .before .before .before .before .before .before .before .before .before .before .before .before .before .before .before .before .before .before .before .before .before .before .before .pre .0) (omega (arith, c .before .before .before .before .before .before .before .before .before .before .before .before .before .before .before .before .before .before .before .before .before .before .before .pre .1)) (c .before .before .before .before .before .before .before .before .before .before .before .before .before .before .before .before .before .read-in .ensures) (c .before .before .before .before .before .before .before .before .decide-outcome .ensures) (x .1))
 
 same-length-5 : tie.Need-same-length-5
 same-length-5 c = search needs
@@ -83,7 +91,10 @@ same-length-6 : tie.Need-same-length-6
 same-length-6 c = search needs
 
 returns-3 : tie.Need-returns-3
-returns-3 c = let w = c .before .before .before .before .before .write .ensures in let x = writeAll-refused _ _ _ (sym (w .answer) ∙ ap told (c .before .enum-told2 .given .1)) in absurd (omega (arith, x .0))
+returns-3 c =
+    let w = c .before .before .before .before .before .write .ensures in
+    let x = writeAll-refused _ _ _ (sym (w .answer) ∙ ap told (c .before .enum-told2 .given .1)) in
+    absurd (omega (arith, x .0))
 
 pub serve-spec : {M : Type 1} → statement M
 serve-spec =

@@ -1,6 +1,5 @@
-use Prim.Native.Nat.{ℕ}
 use Rattle.sessions.specs.Sessions.{isOn, closeOne, withSlot}
-use mathlib.Core.Path.{_≡_, refl, sym, ap, _∙_}
+use mathlib.Core.Path.{sym, ap, _∙_}
 use borrow.Author.Needs.{needs}
 use Rattle.sessions.proofs.closing.close_if_on.Statement.{statement}
 use Rattle.sessions.proofs.closing.close_if_on.Tie as tie

@@ -1,11 +1,9 @@
 use borrow.Author.Needs.{needs}
-use Rattle.sessions.specs.Sessions.{slotCount, isOn, holdsRemoved, closeOne, closeBelow}
-use lib.ListN.{length}
+use Rattle.sessions.specs.Sessions.{slotCount, isOn, closeOne, closeBelow}
 use native.Mathlib.Nat.{le-antisymm}
 use native.Mathlib.Numerals.{add-one}
-use native.Mathlib.Omega.{arith}
-use Prim.Native.Nat.{ℕ, _+_, _-_, _*_, _≤_, _<_}
-use mathlib.Core.Path.{_≡_, refl, sym, ap, _∙_}
+use Prim.Native.Nat.{_-_, _≤_}
+use mathlib.Core.Path.{_≡_, refl, ap, _∙_}
 use Rattle.sessions.proofs.closing.close_line.Statement.{statement}
 use Rattle.sessions.proofs.closing.close_line.Tie as tie
 

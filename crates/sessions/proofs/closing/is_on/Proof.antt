@@ -1,4 +1,4 @@
-use mathlib.Core.Path.{_≡_, refl, sym, ap, _∙_}
+use mathlib.Core.Path.{sym, _∙_}
 use borrow.Author.Needs.{needs}
 use Rattle.sessions.proofs.closing.is_on.Statement.{statement}
 use Rattle.sessions.proofs.closing.is_on.Tie as tie

@@ -7,8 +7,7 @@ use Rattle.sessions.specs.declared.Slot.{Slot}
 use lib.ListN.{length, drop}
 use mathlib.Core.List.{List}
 use mathlib.Core.Bool.{Bool}
-use native.Mathlib.Omega.{arith}
-use Prim.Native.Nat.{ℕ, _+_, _-_, _*_, _≤_, _<_}
+use Prim.Native.Nat.{ℕ, _-_, _≤_, _<_}
 use mathlib.Core.Path.{_≡_, refl, sym, ap, _∙_}
 use Rattle.sessions.proofs.opening.any_held.Statement.{statement}
 use Rattle.sessions.proofs.opening.any_held.Tie as tie

@@ -1,8 +1,8 @@
 use Rattle.sessions.specs.SlotLaws.{first-slot}
-use Rattle.sessions.specs.Sessions.{slotsOf, isFree, withSlot}
+use Rattle.sessions.specs.Sessions.{isFree}
 use native.Mathlib.Omega.{arith}
-use Prim.Native.Nat.{ℕ, _+_, _-_, _*_, _≤_, _<_}
-use mathlib.Core.Path.{_≡_, refl, sym, ap, _∙_}
+use Prim.Native.Nat.{_-_}
+use mathlib.Core.Path.{_∙_}
 use borrow.Author.Needs.{needs}
 use Rattle.sessions.proofs.opening.open_session.Statement.{statement}
 use Rattle.sessions.proofs.opening.open_session.Tie as tie

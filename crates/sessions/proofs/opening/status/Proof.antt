@@ -54,7 +54,9 @@ cast-count : tie.Need-cast-count
 cast-count c = search needs
 
 array-share-prefix-indices : tie.Need-array-share-prefix-indices
-array-share-prefix-indices c = let long : length (c .before .before .before .before .before .before .before .before .before .args .request .indices) ≡ maxIndices = search needs in omega (arith, long, legal-count _ _ (legal (c .before .before .before .before .before .before)))
+array-share-prefix-indices c =
+    let long : length (c .before .before .before .before .before .before .before .before .before .args .request .indices) ≡ maxIndices = search needs in
+    omega (arith, long, legal-count _ _ (legal (c .before .before .before .before .before .before)))
 
 slice-aggregate-any-held : tie.Need-slice-aggregate-any-held
 slice-aggregate-any-held c = sym (length-take-le _ _ (array-share-prefix-indices (c .before)))

@@ -1,10 +1,9 @@
-use Rattle.sessions.specs.Sessions.{slotSize, slotBytes, withSlot}
+use Rattle.sessions.specs.Sessions.{slotSize, withSlot}
 use Rattle.memory.specs.WroteLaws.{sets-append}
 use lib.Seq.{sets}
-use lib.ListN.{length}
 use mathlib.Core.List.{List, [], _∷_}
 use Prim.Native.Nat.{ℕ, _+_, _*_, _/_, _%_}
-use mathlib.Core.Path.{_≡_, refl, sym, ap, _∙_}
+use mathlib.Core.Path.{ap, _∙_}
 use borrow.Author.Needs.{needs}
 use Rattle.sessions.proofs.slots.put_slot.Statement.{statement}
 use Rattle.sessions.proofs.slots.put_slot.Tie as tie
@@ -35,7 +34,10 @@ copy-requires-2 c κs = search needs
 
 returns : tie.Need-returns
 unfolding withSlot
-returns c = let s = c .before .before .before .before .before .before .before .args .slot in let head = s .used ∷ s .line ∷ s .number / 256 ∷ s .number % 256 ∷ [] in c .copy2 .ensures ∙ ap (λ (m : List ℕ). sets m (c .before .before .before .before .before .before .before .args .k * slotSize + 4) (s .nodes)) (c .before .before .before .copy .ensures) ∙ sets-append head (s .nodes) (c .before .before .before .before .before .before .before .args .slots .now) (c .before .before .before .before .before .before .before .args .k * slotSize)
+returns c =
+    let s = c .before .before .before .before .before .before .before .args .slot in
+    let head = s .used ∷ s .line ∷ s .number / 256 ∷ s .number % 256 ∷ [] in
+    c .copy2 .ensures ∙ ap (λ (m : List ℕ). sets m (c .before .before .before .before .before .before .before .args .k * slotSize + 4) (s .nodes)) (c .before .before .before .copy .ensures) ∙ sets-append head (s .nodes) (c .before .before .before .before .before .before .before .args .slots .now) (c .before .before .before .before .before .before .before .args .k * slotSize)
 
 pub put-slot-spec : {M : Type 1} → statement M
 put-slot-spec =

@@ -1,8 +1,8 @@
 use native.Mathlib.Omega.{arith}
 use Rattle.sessions.specs.SlotLaws.{slots-count, slotAt-from}
-use Rattle.sessions.specs.Sessions.{slotsOf, closedSlot, slotCount, sessionsSize}
+use Rattle.sessions.specs.Sessions.{slotsOf, closedSlot, sessionsSize}
 use lib.ListN.{length, List·getD-eq-default}
-use mathlib.Core.Path.{_≡_, refl, sym, ap, _∙_}
+use mathlib.Core.Path.{_≡_, sym, _∙_}
 use borrow.Author.Needs.{needs}
 use Rattle.sessions.proofs.slots.slot_at.Statement.{statement}
 use Rattle.sessions.proofs.slots.slot_at.Tie as tie
@@ -17,7 +17,9 @@ mul-slot-from : tie.Need-mul-slot-from
 mul-slot-from c = search needs
 
 slot-from-requires : tie.Need-slot-from-requires
-slot-from-requires c κs = let size : length (c .before .before .args .slots .now) ≡ sessionsSize = search needs in omega (arith, size, c .before .if1 .left)
+slot-from-requires c κs =
+    let size : length (c .before .before .args .slots .now) ≡ sessionsSize = search needs in
+    omega (arith, size, c .before .if1 .left)
 
 returns-2 : tie.Need-returns-2
 returns-2 c = c .slot-from .ensures ∙ sym (slotAt-from (c .before .before .before .args .slots .now) (c .before .before .before .args .k) (c .before .before .if1 .left))

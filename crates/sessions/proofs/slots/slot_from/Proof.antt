@@ -1,11 +1,11 @@
 use lib.Seq.{sets}
 use Rattle.sessions.specs.Sessions.{slotSize, markBytes, marksAt}
-use Prim.Native.Nat.{ℕ, _+_, _-_, _*_, _≤_, _<_}
+use Prim.Native.Nat.{ℕ, _+_, _-_}
 use Rattle.sessions.specs.Sessions.{markBytes, marksAt}
-use lib.ListN.{length, take, drop, replicate, length-take, length-drop}
+use lib.ListN.{take, drop, replicate, length-take, length-drop}
 use Rattle.memory.specs.WroteLaws.{sets-whole}
 use native.Mathlib.Omega.{arith}
-use mathlib.Core.Path.{_≡_, refl, sym, ap, _∙_}
+use mathlib.Core.Path.{_≡_, ap, _∙_}
 use borrow.Author.Needs.{needs}
 use Rattle.sessions.proofs.slots.slot_from.Statement.{statement}
 use Rattle.sessions.proofs.slots.slot_from.Tie as tie
@@ -56,7 +56,12 @@ number-of-requires : tie.Need-number-of-requires
 number-of-requires c κs = search needs
 
 returns : tie.Need-returns
-returns c = let b = c .before .before .before .before .before .before .before .before .before .before .args .slots .now in let i = c .before .before .before .before .before .before .before .before .before .before .args .at in let wide : i + slotSize - (i + marksAt) ≡ markBytes = omega arith in let stored = c .before .before .before .before .before .before .copy .ensures ∙ ap (λ (n : ℕ). sets (replicate markBytes 0) 0 (take n (drop (i + marksAt) b))) wide ∙ sets-whole (replicate markBytes 0) (take markBytes (drop (i + marksAt) b)) (simp (length-take, length-drop) (omega arith)) in simp (c .number-of .ensures, stored)
+returns c =
+    let b = c .before .before .before .before .before .before .before .before .before .before .args .slots .now in
+    let i = c .before .before .before .before .before .before .before .before .before .before .args .at in
+    let wide : i + slotSize - (i + marksAt) ≡ markBytes = omega arith in
+    let stored = c .before .before .before .before .before .before .copy .ensures ∙ ap (λ (n : ℕ). sets (replicate markBytes 0) 0 (take n (drop (i + marksAt) b))) wide ∙ sets-whole (replicate markBytes 0) (take markBytes (drop (i + marksAt) b)) (simp (length-take, length-drop) (omega arith)) in
+    simp (c .number-of .ensures, stored)
 
 pub slot-from-spec : {M : Type 1} → statement M
 slot-from-spec =

@@ -5,10 +5,9 @@ use Rattle.text.specs.Appended.{Leaves}
 use Rattle.transcript.specs.State.{slotLines}
 use Rattle.sessions.specs.Sessions.{slotCount, slotAt}
 use lib.ListN.{length}
-use mathlib.Core.List.{List}
 use Prim.Native.Nat.{_-_, _≤_}
 use native.Mathlib.Omega.{arith}
-use mathlib.Core.Path.{_≡_, refl, sym, ap, _∙_}
+use mathlib.Core.Path.{_≡_, refl}
 use Rattle.transcript.proofs.state.show_slots.Statement.{statement}
 use Rattle.transcript.proofs.state.show_slots.Tie as tie
 
