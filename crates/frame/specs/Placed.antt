@@ -1,4 +1,5 @@
--- The checks on a packet with places: as `judge` of Frame, and each refusal tells where.
+-- The checks on a packet with places (document 02, CR 2): as `judge` of Frame, and each refusal tells where. No call reaches it yet. Without
+-- the places it is that `judge`: PlaceLaws.antt, judge-forget.
 use Prim.Native.Nat.{ℕ, _-_}
 use mathlib.Core.List.{List}
 use mathlib.Core.Bool.{Bool, cond}

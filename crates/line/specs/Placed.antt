@@ -1,4 +1,5 @@
--- The line reader with places, byte by byte: as Reader, and a settled piece keeps both places of its fault.
+-- The line reader with places, byte by byte (document 02, CR 2): as Reader, and a settled piece keeps both places of its fault. No call
+-- reaches it yet. Without the places it is Reader: PlacedLaws.antt, step-forget.
 use Prim.Native.Nat.{ℕ}
 use mathlib.Core.List.{List, [], _∷_, _++_}
 use mathlib.Core.Bool.{cond}

@@ -4,7 +4,7 @@ use mathlib.Core.Path.{_≡_}
 use mathlib.Core.List.{List}
 use mathlib.Core.Bool.{cond}
 use lib.Dec.{eqb}
-use lib.ListN.{length, take, drop, getD}
+use lib.ListN.{length, take, drop, set, getD}
 use Rattle.line.specs.declared.Place.{Place}
 use Rattle.line.specs.declared.Reading.{Reading}
 use Rattle.frame.specs.Frame.{head}
@@ -23,7 +23,7 @@ use Rattle.rules.specs.declared.FeedAnswer.the-variants as feed
 use Rattle.rules.specs.declared.FedAt.{FedAt}
 use Rattle.rules.specs.declared.FedByValue.{FedByValue}
 use Rattle.rules.specs.Hub as rules
-use Rattle.rules.specs.Hub.{Response, passwordSize, withLogin, withPassword, withSlots}
+use Rattle.rules.specs.Hub.{Response, passwordSize, withPassword, withSlots}
 
 -- ---- the call
 
@@ -35,7 +35,7 @@ readingAt bs p = record { bytes = bs; count = p .count; mode = p .mode }
 abbrev pub refusedFeed : Hub → Place → CallRefusal → FedAt
 refusedFeed h p why = record { answer = feed.Refused why; hub = h; place = p }
 
--- `told`: what was read, with the reply's length and the hub that is left
+-- `told`: what was read, with the reply's length and the parts of the hub that is left
 abbrev pub toldFeed : FrameAt → ℕ → Hub → FedAt
 toldFeed a n h = record { answer = feed.Told (a .used) (a .outcome) n; hub = h; place = a .place }
 
@@ -50,26 +50,33 @@ pub record Left : Type 0 where
   pub hub : Hub
   pub table : List ℕ
 
--- a mode send with a status: where it is 0, its session is opened
-abbrev pub sent : ℕ → List ℕ → ℕ → List ℕ → List ℕ
-sent s b l d = cond (eqb s sessions.accepted) (sessions.opened b l (sessions.modeSendOf d)) b
+-- `change_password`, `log_in`: a password request does something only with status 0
+abbrev pub passwordLeft : ℕ → List ℕ → List ℕ → List ℕ
+passwordLeft s d p = cond (eqb s rules.correct) (drop passwordSize d) p
+
+abbrev pub loginsLeft : ℕ → ℕ → List ℕ → List ℕ
+loginsLeft s l ls = cond (eqb s rules.correct) (set ls l 1) ls
+
+-- the hub of these parts, as they lie
+abbrev pub hubOf : List ℕ → List ℕ → List ℕ → Hub
+hubOf p ls b = record { password = p; logins = ls; slots = b }
 
 -- `carry_out`: what is done, by the reply that was decided, the line and the request's data
 abbrev pub carriedOut : Reply → Hub → List ℕ → ℕ → List ℕ → Left
 carriedOut reply.Nothing h t l d = record { hub = h; table = t }
 carriedOut (reply.Error e) h t l d = record { hub = h; table = t }
-carriedOut (reply.PasswordEntered s) h t l d = record { hub = cond (eqb s rules.correct) (withLogin h l) h; table = t }
-carriedOut (reply.PasswordChanged s) h t l d = record { hub = cond (eqb s rules.correct) (withPassword h (drop passwordSize d)) h; table = t }
+carriedOut (reply.PasswordEntered s) h t l d = record { hub = hubOf (h .password) (loginsLeft s l (h .logins)) (h .slots); table = t }
+carriedOut (reply.PasswordChanged s) h t l d = record { hub = withPassword h (passwordLeft s d (h .password)); table = t }
 carriedOut (reply.AboutNode n) h t l d = record { hub = h; table = t }
 carriedOut (reply.VariationSet s n) h t l d = record { hub = h; table = setVariation t n (getD d 1 0) .table }
 carriedOut (reply.NameSet s n) h t l d = record { hub = h; table = setName t n (drop 1 d) .table }
 carriedOut (reply.OrderAndPlacementSet s n) h t l d = record { hub = h; table = setOrderAndPlacement t n (drop 1 d) .table }
 carriedOut (reply.NodesRemoved k) h t l d = record { hub = withSlots h (sessions.closeRemoved t d (h .slots)); table = remove d t }
 carriedOut reply.VirginStateSet h t l d = record { hub = withSlots h (sessions.closeAll (h .slots)); table = emptied t }
-carriedOut (reply.ModeSendConfirmed x s) h t l d = record { hub = withSlots h (sent s (h .slots) l d); table = t }
+carriedOut (reply.ModeSendConfirmed x s) h t l d = record { hub = withSlots h (sessions.openedIf s (h .slots) l (sessions.modeSendOf d)); table = t }
 carriedOut (reply.SessionFinished x) h t l d = record { hub = h; table = t }
 
--- a request that is done has its data: of a node set command a byte for the node before what is stored
+-- a request that is done has its data: two passwords, a byte for the node before what is stored, a mode send
 abbrev pub Enough : Reply → List ℕ → Type 0
 Enough reply.Nothing d = Unit {0}
 Enough (reply.Error e) d = Unit {0}
@@ -83,10 +90,6 @@ Enough (reply.NodesRemoved k) d = Unit {0}
 Enough reply.VirginStateSet d = Unit {0}
 Enough (reply.ModeSendConfirmed x s) d = length d ≡ sessions.modeSendSize
 Enough (reply.SessionFinished x) d = Unit {0}
-
--- the hub of these parts, as they lie
-abbrev pub hubOf : List ℕ → List ℕ → List ℕ → Hub
-hubOf p ls b = record { password = p; logins = ls; slots = b }
 
 -- ---- what is decided
 

@@ -1,9 +1,11 @@
 // What a request does once its reply is written (document 01, "What the commands do"): to the hub's password, logins and sessions, and to the
 // node table. They are those of specs/Answers.antt: carriedOut.
-ghost use Prim.Native.Nat.{_<_};
+ghost use Prim.Native.Nat.{_+_, _<_};
 ghost use mathlib.Core.Path.{_≡_};
-ghost use Rattle.rules.specs.Hub.{lineCount};
-ghost use Rattle.requests.specs.Answers.{hubOf, carriedOut, Enough};
+ghost use lib.ListN.{length};
+ghost use Rattle.sessions.specs.Sessions.{modeSendSize, modeSendOf, openedIf};
+ghost use Rattle.rules.specs.Hub.{lineCount, passwordSize};
+ghost use Rattle.requests.specs.Answers.{hubOf, passwordLeft, loginsLeft, carriedOut, Enough};
 use replies::Reply;
 
 // What was decided is done, by the reply, the line and the request's data.
@@ -22,16 +24,8 @@ pub(crate) fn carry_out(
     match reply {
         Reply::Nothing => {}
         Reply::Error(_) => {}
-        Reply::PasswordEntered(status) => {
-            if status == crate::decide::CORRECT {
-                logins[line as usize] = 1;
-            }
-        }
-        Reply::PasswordChanged(status) => {
-            if status == crate::decide::CORRECT {
-                memory::copy(password, 0, &payload[rules::PASSWORD..]);
-            }
-        }
+        Reply::PasswordEntered(status) => log_in(logins, line, status),
+        Reply::PasswordChanged(status) => change_password(password, status, payload),
         Reply::AboutNode(_) => {}
         Reply::VariationSet { status: _, node } => {
             nodes::set_variation(table, node, memory::byte(payload, 1));
@@ -50,11 +44,37 @@ pub(crate) fn carry_out(
             sessions::close_all(slots);
             nodes::empty(table);
         }
-        Reply::ModeSendConfirmed { session: _, status } => {
-            if status == sessions::ACCEPTED {
-                sessions::open_session(slots, line, crate::decide::mode_send_of(payload));
-            }
-        }
+        Reply::ModeSendConfirmed { session: _, status } => open_if(slots, line, status, payload),
         Reply::SessionFinished(_) => {}
+    }
+}
+
+// Password enter with a status: where it is 0, the line is logged in.
+fn log_in(logins: &mut [u8; rules::LINES], line: u8, status: u8)
+    requires { ⌜ line < lineCount ⌝ }
+    ensures { λ r. ⌜ now (logins .exit) ≡ loginsLeft status line (now (logins .entry)) ⌝ }
+{
+    if status == crate::decide::CORRECT {
+        logins[line as usize] = 1;
+    }
+}
+
+// Password change with a status: where it is 0, the second half of the data is the password.
+fn change_password(password: &mut [u8; rules::PASSWORD], status: u8, payload: &[u8])
+    requires { ⌜ length (now payload) ≡ passwordSize + passwordSize ⌝ }
+    ensures { λ r. ⌜ now (password .exit) ≡ passwordLeft status (now (payload .entry)) (now (password .entry)) ⌝ }
+{
+    if status == crate::decide::CORRECT {
+        memory::copy(password, 0, &payload[rules::PASSWORD..]);
+    }
+}
+
+// A mode send with a status: where it is 0, its session is opened.
+fn open_if(slots: &mut [u8; sessions::TABLE], line: u8, status: u8, payload: &[u8])
+    requires { ⌜ length (now payload) ≡ modeSendSize ⌝ }
+    ensures { λ r. ⌜ now (slots .exit) ≡ openedIf status (now (slots .entry)) line (modeSendOf (now (payload .entry))) ⌝ }
+{
+    if status == sessions::ACCEPTED {
+        sessions::open_session(slots, line, crate::decide::mode_send_of(payload));
     }
 }

@@ -1,6 +1,6 @@
 // Feed, with the record in and out by value, or its bytes where they lie (document 01, "Feed takes a line, bytes and reply room"): the call's
 // first refusals; reading up to the first outcome, on a copy of the record; what is answered, decided; refusal 9 or the reply written; and
-// only then table and record changed. It stands on the reader of frames, on the replies and on the requests.
+// only then hub, table and record changed. It stands on the reader of frames, on the replies and on the requests.
 ghost use Prim.Native.Nat.{_<_};
 ghost use mathlib.Core.Path.{_≡_};
 ghost use lib.ListN.{length};
@@ -102,28 +102,33 @@ fn serve(
                 &tried[frame::HEAD..end],
             );
             *held = tried;
-            let next = Hub {
-                password,
-                logins,
-                slots,
-            };
-            told(read, len, next)
+            told(read, len, password, logins, slots)
         }
         Written::ShortRoom => refused(hub, place, CallRefusal::ShortRoom),
         Written::LongData => refused(hub, place, CallRefusal::ShortRoom),
     }
 }
 
-// What was read, with the reply's length and the hub that is left.
-fn told(read: FrameAt, len: usize, hub: Hub) -> FedAt
-    ensures { λ r. ⌜ r ≡ toldFeed read len hub ⌝ }
+// What was read, with the reply's length and the parts of the hub that is left.
+fn told(
+    read: FrameAt,
+    len: usize,
+    password: [u8; rules::PASSWORD],
+    logins: [u8; rules::LINES],
+    slots: [u8; sessions::TABLE],
+) -> FedAt
+    ensures { λ r. ⌜ r ≡ toldFeed read len (hubOf password logins slots) ⌝ }
 {
     let used = read.used;
     let outcome = read.outcome;
     let place = read.place;
     FedAt {
         answer: FeedAnswer::Told { used, outcome, len },
-        hub: hub,
+        hub: Hub {
+            password,
+            logins,
+            slots,
+        },
         place: place,
     }
 }

@@ -17,7 +17,8 @@ use Rattle.sessions.specs.declared.ModeSend.{ModeSend}
 use Rattle.sessions.specs.Search.{any, first, member, below}
 use Rattle.sessions.specs.Sessions.{slotCount, slotSize, markBytes, marksAt, targetCount, slotFrom, slotsOf, slotBytes, withSlot, closedSlot, slotAt, isOpen, isFree, isNumbered, holds, closeOne, closeBelow, named, sessionSlot, opened, modeSend, Finished, finish}
 unfoldable pub use Rattle.sessions.specs.Sessions.{holders, leftBy}
-use Rattle.sessions.specs.SlotLaws.{map-last, withSlot-length, withSlot-other, withSlot-byte}
+use Rattle.sessions.specs.ListLaws.{map-last}
+use Rattle.sessions.specs.SlotLaws.{withSlot-length, withSlot-other, withSlot-byte}
 use Rattle.sessions.specs.SessionLaws.{modeSend-leaves}
 use Rattle.sessions.specs.MarkLaws.{zeros-at, marks-exactly, session-marks}
 

@@ -1,23 +1,25 @@
 -- Laws of the sessions.
-use Prim.Native.Nat.{ℕ, suc, _+_, _<_, _≤_}
-use mathlib.Core.Path.{_≡_, refl, ap, _∙_}
+use Prim.Native.Nat.{ℕ, zero, suc, _+_, _*_, _<_, _≤_}
+use mathlib.Core.Path.{_≡_, refl, sym, ap, _∙_}
 use mathlib.Core.List.{List, [], _∷_, map}
 use mathlib.Core.Bool.{Bool, true, false, cond, not, _&&_, true≢false, false≢true}
 use mathlib.Core.Option.{Option, none, some}
 use native.Mathlib.Numerals.{add-one}
 use native.Mathlib.Omega.{arith}
-use lib.ListN.{length, take, drop, getD, drop-of-length-le}
+use lib.ListN.{length, take, drop, getD, set, drop-of-length-le}
 use lib.Seq.{drop-cons, take-suc}
 use lib.Dec.{leb, ltb, eqb}
-use borrow.Author.Tests.{leb-true, eqb-true}
-use Rattle.nodes.specs.Cases.{either-by}
+use borrow.Author.Tests.{leb-true, ltb-true, ltb-false, eqb-true}
+use Rattle.nodes.specs.Cases.{either, either-by}
 use Rattle.nodes.specs.Table.{inUse, isRemoved, nodeCount}
 use Rattle.sessions.specs.declared.Slot.{Slot}
 use Rattle.sessions.specs.declared.ModeSend.{ModeSend}
 use Rattle.sessions.specs.Search.{any, first, member, below}
 use Rattle.sessions.specs.SearchLaws.{member-last}
-use Rattle.sessions.specs.Sessions.{sessionsSize, slotsOf, closedSlot, isOpen, isOn, closeIf, closeLine, holdsRemoved, closeRemoved, isFree, isNumbered, holds, close, targetCount, maxIndices, named, accepted, rejected, sessionInUse, noFreeSlot, illegalParameter, targetsLegal, isLegal, withBit, marked, sessionSlot, modeSendStatus, opened, modeSend, Finished, finish, leftBy, notOpen, refused, onLine, told}
-use Rattle.sessions.specs.SlotLaws.{withSlot-length, close-slots}
+use Rattle.sessions.specs.Sessions.{slotCount, slotSize, sessionsSize, slotFrom, slotsOf, slotAt, withSlot, closedSlot, isOpen, isOn, closeOne, closeBelow, closeLine, holdsRemoved, closeRemoved, isFree, isNumbered, holds, close, targetCount, maxIndices, named, accepted, rejected, sessionInUse, noFreeSlot, illegalParameter, targetsLegal, isLegal, withBit, marked, sessionSlot, modeSendStatus, opened, modeSend, Finished, finish, leftBy, notOpen, refused, onLine, told}
+use Rattle.sessions.specs.ListLaws.{below-each}
+use Rattle.sessions.specs.SlotLaws.{slotAt-from, withSlot-length, withSlot-other, closed-unused, slots-with}
+use Rattle.sessions.specs.MarkLaws.{session-marks}
 
 -- status 0 is given only where no node that is named is held
 pub accepted-free : (ss : List Slot) (t : List ℕ) (r : ModeSend) → modeSendStatus ss t r ≡ accepted → any (λ n. any (holds n) ss) (named r) ≡ false
@@ -43,22 +45,58 @@ modeSend-leaves P b t l r same taken =
 pub modeSend-length : (b t : List ℕ) (l : ℕ) (r : ModeSend) → length (modeSend b t l r .slots) ≡ length b
 modeSend-length b t l r = modeSend-leaves (λ (c : List ℕ). length c ≡ length b) b t l r refl (λ e. withSlot-length b (first isFree (slotsOf b)) (sessionSlot l r))
 
--- after the sessions that pass a test are closed, none passes it, if a free slot does not
-none-left : (p : Slot → Bool) → p closedSlot ≡ false → (ss : List Slot) → any p (map (closeIf p) ss) ≡ false
-unfolding any
-none-left p e [] = refl
-none-left p e (s ∷ ss) = go (p s) refl (none-left p e ss)
-  where
-    go : (b : Bool) → p s ≡ b → any p (map (closeIf p) ss) ≡ false → cond (p (cond b closedSlot s)) true (any p (map (closeIf p) ss)) ≡ false
-    go true x y = rw (e, y)
-    go false x y = rw (x, y)
+-- of the slots, in the paper's words: the lowest free one takes the session, and no other changes
+pub opened-slots : (b : List ℕ) (l : ℕ) (r : ModeSend) → length b ≡ sessionsSize → slotsOf (opened b l r) ≡ set (slotsOf b) (first isFree (slotsOf b)) (sessionSlot l r)
+opened-slots b l r size = slots-with b (first isFree (slotsOf b)) (sessionSlot l r) (session-marks l r) size
 
-pub close-none : (p : Slot → Bool) → p closedSlot ≡ false → (b : List ℕ) → length b ≡ sessionsSize → any p (slotsOf (close p b)) ≡ false
-close-none p e b size = rw (close-slots p b size) (none-left p e (slotsOf b))
+-- the lowest with its number is closed by a finish, and no other changes
+pub finish-slots : (b : List ℕ) (x : ℕ) → length b ≡ sessionsSize
+    → slotsOf (leftBy (finish b x) b) ≡ cond (any (isNumbered x) (slotsOf b)) (set (slotsOf b) (first (isNumbered x) (slotsOf b)) closedSlot) (slotsOf b)
+unfolding finish
+finish-slots b x size = go (any (isNumbered x) (slotsOf b))
+  where
+    k : ℕ
+    k = first (isNumbered x) (slotsOf b)
+
+    go : (t : Bool) → slotsOf (leftBy (cond t (some (record { line = slotAt b k .line; slots = withSlot b k closedSlot })) none) b) ≡ cond t (set (slotsOf b) k closedSlot) (slotsOf b)
+    go true = slots-with b k closedSlot refl size
+    go false = refl
+
+-- the session table is as long after a finish as before
+pub finish-length : (b : List ℕ) (x : ℕ) → length (leftBy (finish b x) b) ≡ length b
+unfolding finish
+finish-length b x =
+    either (λ (o : Option Finished). length (leftBy o b) ≡ length b) (any (isNumbered x) (slotsOf b)) _ _ (withSlot-length b (first (isNumbered x) (slotsOf b)) closedSlot) refl
+
+-- after the sessions that pass a test are closed, none passes it, if a slot without an open one does not: in a table of any length
+module _ (p : Slot → Bool) (free : (s : Slot) → isOpen s ≡ false → p s ≡ false) (b : List ℕ) where
+  closed-passes : (c : List ℕ) (k : ℕ) → p (slotFrom (withSlot c k closedSlot) (k * slotSize)) ≡ false
+  closed-passes c k = free (slotFrom (withSlot c k closedSlot) (k * slotSize)) (rw (closed-unused c k))
+
+  none-below : (k j : ℕ) → j < k → k ≤ slotCount → p (slotFrom (closeBelow p k b) (j * slotSize)) ≡ false
+  unfolding closeBelow closeOne
+  none-below zero j h e = absurd (omega arith)
+  none-below (suc k) j h e = go (ltb j k) refl (closeBelow p k b) (λ x. none-below k j x (omega arith))
+    where
+      go : (t : Bool) → ltb j k ≡ t → (c : List ℕ) → (j < k → p (slotFrom c (j * slotSize)) ≡ false)
+          → p (slotFrom (cond (p (slotAt c k)) (withSlot c k closedSlot) c) (j * slotSize)) ≡ false
+      go true x c r =
+          let l = ltb-true j k x in
+          either (λ (m : List ℕ). p (slotFrom m (j * slotSize)) ≡ false) (p (slotAt c k)) (withSlot c k closedSlot) c
+          (ap p (withSlot-other c k closedSlot refl j (λ y. omega (arith, y, l))) ∙ r l) (r l)
+      go false x c r =
+          let l : j ≡ k = omega (arith, ltb-false j k x, h) in
+          rw l
+          (either-by (λ (m : List ℕ). p (slotFrom m (k * slotSize)) ≡ false) (p (slotAt c k)) (withSlot c k closedSlot) c (λ y. closed-passes c k)
+          (λ y. ap p (sym (slotAt-from c k (omega arith))) ∙ y))
+
+  pub close-none : any p (slotsOf (close p b)) ≡ false
+  unfolding slotsOf
+  close-none = below-each p (λ j. slotFrom (close p b) (j * slotSize)) slotCount (λ j h. none-below slotCount j h (omega arith))
 
 -- so no session is on a line that was closed
-pub closeLine-none : (l : ℕ) (b : List ℕ) → length b ≡ sessionsSize → any (isOn l) (slotsOf (closeLine l b)) ≡ false
-closeLine-none l b size = close-none (isOn l) refl b size
+pub closeLine-none : (l : ℕ) (b : List ℕ) → any (isOn l) (slotsOf (closeLine l b)) ≡ false
+closeLine-none l b = close-none (isOn l) (λ s e. rw e) b
 
 -- a slot without an open session holds no node
 free-none : (s : Slot) → isOpen s ≡ false → (f : ℕ → Bool) (l : List ℕ) → any (λ k. holds k s && f k) l ≡ false
@@ -71,8 +109,8 @@ unfolding holdsRemoved
 removed-none t bits s e = free-none s e (isRemoved t bits) (below nodeCount)
 
 -- and none holds a node that was removed
-pub closeRemoved-none : (t bits b : List ℕ) → length b ≡ sessionsSize → any (holdsRemoved t bits) (slotsOf (closeRemoved t bits b)) ≡ false
-closeRemoved-none t bits b size = close-none (holdsRemoved t bits) (removed-none t bits closedSlot refl) b size
+pub closeRemoved-none : (t bits b : List ℕ) → any (holdsRemoved t bits) (slotsOf (closeRemoved t bits b)) ≡ false
+closeRemoved-none t bits b = close-none (holdsRemoved t bits) (removed-none t bits) b
 
 -- a legal request has at most 20 indices
 pub legal-count : (t : List ℕ) (r : ModeSend) → isLegal t r ≡ true → r .count ≤ maxIndices
@@ -136,7 +174,7 @@ pub marked-end : (ms is : List ℕ) (i : ℕ) → length is ≤ i → marked ms 
 unfolding marked
 marked-end ms is i h = rw (drop-of-length-le is h)
 
--- the slots of a session that is told of: it is open under its number, in the slot that finish closes
+-- what finish gives where it tells a line, and where it tells that the number is not open
 pub finish-told : (b : List ℕ) (x l : ℕ) → told (finish b x) ≡ onLine l → finish b x ≡ some (record { line = l; slots = leftBy (finish b x) b })
 finish-told b x l e = go (finish b x) e
   where
@@ -144,8 +182,8 @@ finish-told b x l e = go (finish b x) e
     go none e = let z : _≡_ {A = ℕ} 0 1 = cc in absurd (omega arith)
     go (some f) e = let line : f .line ≡ l = cc in rw (← line)
 
-pub finish-not-open : (b : List ℕ) (x : ℕ) → told (finish b x) ≡ refused notOpen → finish b x ≡ none
-finish-not-open b x e = go (finish b x) e
+pub finish-none : (b : List ℕ) (x : ℕ) → told (finish b x) ≡ refused notOpen → finish b x ≡ none
+finish-none b x e = go (finish b x) e
   where
     go : (o : Option Finished) → told o ≡ refused notOpen → o ≡ none
     go none e = refl

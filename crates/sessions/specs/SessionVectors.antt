@@ -119,7 +119,7 @@ opened = refl
 unfoldable full : List ℕ
 full = laid (replicate 8 (sessionSlot 0 (request 1 (5 ∷ []))))
 
--- the status of a mode send, and whether the session table stays
+-- the status of a mode send
 unfoldable status : List ℕ → ModeSend → ℕ
 status b r = modeSend b nodes 1 r .status
 
@@ -139,6 +139,11 @@ firsts = refl
 held : modeSend busy nodes 0 (request 2 (5 ∷ [])) .status ∷ status busy (request 0 (7 ∷ [])) ∷ [] ≡ 1 ∷ 0 ∷ []
 unfolding nodes empty request busy status modeSend modeSendStatus withSlot slotsOf below isLegal targetsLegal inUse any first marked bit withBit
 held = refl
+
+-- where no slot is free, none is taken
+none-free : withSlot full (first isFree (slotsOf full)) (sessionSlot 1 (request 2 (7 ∷ []))) ≡ full
+unfolding empty laid request full withSlot slotsOf below first marked bit withBit
+none-free = refl
 
 -- a mode send that is not accepted leaves the session table as it was
 stays : modeSend busy nodes 1 (request 2 (7 ∷ 5 ∷ [])) ≡ record { status = 1; slots = busy }

@@ -28,16 +28,15 @@ targetCount = 200
 abbrev pub markBytes : ℕ
 markBytes = 25
 
--- a slot is 29 bytes: in use (exactly if 1), line 1, number 2, high byte first, nodes 25
+-- a slot is 29 bytes: in use (exactly if 1), line 1, number 2, high byte first, and at the fifth byte its nodes
+abbrev pub marksAt : ℕ
+marksAt = 4
+
 abbrev pub slotSize : ℕ
-slotSize = 29
+slotSize = marksAt + markBytes
 
 abbrev pub sessionsSize : ℕ
 sessionsSize = slotCount * slotSize
-
--- where the nodes begin in a slot
-abbrev pub marksAt : ℕ
-marksAt = 4
 
 -- what a slot says whose bytes begin at a place
 abbrev pub slotFrom : List ℕ → ℕ → Slot
@@ -90,10 +89,11 @@ unfoldable pub holders : ℕ → List Slot → ℕ
 holders n [] = 0
 holders n (s ∷ ss) = cond (holds n s) 1 0 + holders n ss
 
--- the sessions that pass a test are closed, slot by slot
+-- a session that passes a test is closed
 abbrev pub closeIf : (Slot → Bool) → Slot → Slot
 closeIf p s = cond (p s) closedSlot s
 
+-- in the session table, slot by slot; SlotLaws.antt, close-slots, says that it is closeIf of each
 unfoldable pub closeOne : (Slot → Bool) → ℕ → List ℕ → List ℕ
 closeOne p k b = cond (p (slotAt b k)) (withSlot b k closedSlot) b
 
@@ -201,11 +201,15 @@ modeSendStatus ss t r =
     (cond (not (any isFree ss)) noFreeSlot
     (cond (any (λ n. any (holds n) ss) (named r)) rejected accepted)))
 
--- the lowest free slot takes the session, its line and its nodes
+-- the lowest free slot takes the session, its line and its nodes; where none is free, nothing changes
 abbrev pub opened : List ℕ → ℕ → ModeSend → List ℕ
 opened b l r = withSlot b (first isFree (slotsOf b)) (sessionSlot l r)
 
--- what a mode send answers, and the table that it leaves: with its session, where the status is 0
+-- so it is with status 0, and with another nothing changes
+abbrev pub openedIf : ℕ → List ℕ → ℕ → ModeSend → List ℕ
+openedIf s b l r = cond (eqb s accepted) (opened b l r) b
+
+-- what a mode send answers, and the table that it leaves
 pub record Sent : Type 0 where
   pub status : ℕ
   pub slots : List ℕ
@@ -213,7 +217,7 @@ pub record Sent : Type 0 where
 unfoldable pub modeSend : List ℕ → List ℕ → ℕ → ModeSend → Sent
 modeSend b t l r =
     let s = modeSendStatus (slotsOf b) t r in
-    record { status = s; slots = cond (eqb s accepted) (opened b l r) b }
+    record { status = s; slots = openedIf s b l r }
 
 -- ---- finish a session
 

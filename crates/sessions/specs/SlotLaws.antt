@@ -5,7 +5,7 @@ use mathlib.Core.List.{List, [], _∷_, _++_, map}
 use mathlib.Core.Bool.{Bool, true, false, cond}
 use native.Mathlib.Nat.{add-zero}
 use native.Mathlib.Omega.{arith}
-use lib.ListN.{length, take, drop, set, getD, replicate, length-append, length-take, length-drop, length-set, length-map, List·getD-append, List·getD-map}
+use lib.ListN.{length, take, drop, set, getD, replicate, length-append, length-take, length-drop, length-set, length-map, List·getD-append, List·getD-eq-default, List·getD-map}
 use lib.Seq.{length-sets, getD-take, getD-drop, getD-append-seam, getD-append-add, getD-set-same, getD-set-other, ext-getD}
 use lib.Dec.{ltb, eqb}
 use borrow.Author.Tests.{ltb-true, ltb-false, eqb-true, eqb-false}
@@ -14,33 +14,8 @@ use Rattle.nodes.specs.StoreLaws.{sets-before, sets-behind, sets-within, part-b
 use Rattle.sessions.specs.declared.Slot.{Slot}
 use Rattle.sessions.specs.Search.{any, first, below}
 use Rattle.sessions.specs.SearchLaws.{any-first, first-within}
-use Rattle.sessions.specs.ListLaws.{getD-there}
+use Rattle.sessions.specs.ListLaws.{getD-there, below-count, below-at}
 use Rattle.sessions.specs.Sessions.{slotCount, slotSize, sessionsSize, markBytes, marksAt, slotFrom, slotsOf, slotBytes, withSlot, closedSlot, slotAt, closeIf, closeOne, closeBelow, close, closeAll}
-
--- ---- something made of each of the numbers below n
-
-module _ {A : Type 0} (f : ℕ → A) where
-  pub map-last : (l : List ℕ) (n : ℕ) → map f (l ++ n ∷ []) ≡ map f l ++ f n ∷ []
-  map-last [] n = refl
-  map-last (m ∷ l) n = ap (λ (r : List A). f m ∷ r) (map-last l n)
-
-  pub below-count : (n : ℕ) → length (map f (below n)) ≡ n
-  unfolding below
-  below-count zero = refl
-  below-count (suc n) = rw map-last (length-append (map f (below n)) (f n ∷ []) ∙ rw (below-count n) (omega arith))
-
-  pub below-at : (n k : ℕ) (d : A) → k < n → getD (map f (below n)) k d ≡ f k
-  unfolding below
-  below-at zero k d h = absurd (omega arith)
-  below-at (suc n) k d h = rw map-last (go (ltb k n) refl (below-at n k d))
-    where
-      go : (b : Bool) → ltb k n ≡ b → (k < n → getD (map f (below n)) k d ≡ f k) → getD (map f (below n) ++ f n ∷ []) k d ≡ f k
-      go true e r =
-          let h′ = ltb-true k n e in
-          List·getD-append (map f (below n)) (f n ∷ []) d k (rw (below-count n) h′) ∙ r h′
-      go false e r =
-          let same : k ≡ n = omega (arith, ltb-false k n e, h) in
-          rw same (rw (below-count n) at (getD-append-seam (map f (below n)) (f n) [] d))
 
 -- ---- reading
 
@@ -126,6 +101,14 @@ module _ (b : List ℕ) (k : ℕ) (s : Slot) (marks : length (s .nodes) ≡ mark
       nodes =
           let long : length (take markBytes (drop (at + marksAt) (withSlot b k s))) ≡ markBytes = simp (length-take, length-drop, withSlot-length) (omega arith) in
           ext-getD 0 (take markBytes (drop (at + marksAt) (withSlot b k s))) (s .nodes) (long ∙ sym marks) (λ i e. place i (rw long at e))
+
+-- a slot that was closed is not in use, in a table of any length
+pub closed-unused : (b : List ℕ) (k : ℕ) → getD (withSlot b k closedSlot) (k * slotSize) 0 ≡ 0
+closed-unused b k = go (ltb (k * slotSize) (length b)) refl
+  where
+    go : (t : Bool) → ltb (k * slotSize) (length b) ≡ t → getD (withSlot b k closedSlot) (k * slotSize) 0 ≡ 0
+    go true e = rw add-zero at (withSlot-byte b k closedSlot refl 0 (omega arith) (omega (arith, ltb-true (k * slotSize) (length b) e)))
+    go false e = List·getD-eq-default (withSlot b k closedSlot) 0 {n = k * slotSize} (rw (withSlot-length b k closedSlot) (ltb-false (k * slotSize) (length b) e))
 
 -- a slot put in a table of the right length is there, and no other changes
 pub slots-with : (b : List ℕ) (k : ℕ) (s : Slot) → length (s .nodes) ≡ markBytes → length b ≡ sessionsSize → slotsOf (withSlot b k s) ≡ set (slotsOf b) k s

@@ -30,7 +30,7 @@ pub fn status(slots: &[u8; crate::TABLE], table: &[u8], request: ModeSend) -> u8
     crate::ACCEPTED
 }
 
-// The lowest free slot takes the session of a mode send on a line.
+// The lowest free slot takes the session of a mode send on a line; where none is free, nothing changes.
 pub fn open_session(slots: &mut [u8; crate::TABLE], line: u8, request: ModeSend)
     ensures { λ r. ⌜ now (slots .exit) ≡ opened (now (slots .entry)) line request ⌝ }
 {

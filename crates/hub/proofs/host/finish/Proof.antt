@@ -50,7 +50,7 @@ refused-requires-3 : tie.Need-refused-requires-3
 refused-requires-3 c κs = search needs
 
 returns : tie.Need-returns
-returns c = rw (c .refused .ensures) (finish-not-open _ _ _ (sessions.finish-not-open _ _ (sym (c .before .before .before .line-of .ensures) ∙ ap toldBy (c .before .enum-told .given .1))))
+returns c = rw (c .refused .ensures) (finish-not-open _ _ _ (sessions.finish-none _ _ (sym (c .before .before .before .line-of .ensures) ∙ ap toldBy (c .before .enum-told .given .1))))
 
 same-length : tie.Need-same-length
 same-length c = search needs

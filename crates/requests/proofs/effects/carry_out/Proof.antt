@@ -1,11 +1,5 @@
-use lib.Seq.{sets}
-use Rattle.rules.specs.Hub.{passwordSize}
-use Rattle.memory.specs.WroteLaws.{rest, sets-whole}
-use lib.ListN.{length, drop, length-drop}
-use borrow.Author.Tests.{eq-eqb, ne-eqb}
-use Prim.Native.Nat.{_-_}
+use Rattle.memory.specs.WroteLaws.{rest}
 use native.Mathlib.Omega.{arith}
-use mathlib.Core.Path.{_≡_, ap, _∙_}
 use borrow.Author.Needs.{needs}
 use Rattle.requests.proofs.effects.carry_out.Statement.{statement}
 use Rattle.requests.proofs.effects.carry_out.Tie as tie
@@ -19,27 +13,16 @@ enum-told-2 c = search needs
 enum-known-reply : tie.Need-enum-known-reply
 enum-known-reply c = search needs
 
-element-write-logins : tie.Need-element-write-logins
-element-write-logins c = search needs
+log-in-requires : tie.Need-log-in-requires
+log-in-requires c κs = c .before .before .before .before .before .before .pre .0
 
 enum-known-reply-2 : tie.Need-enum-known-reply-2
 enum-known-reply-2 c = search needs
 
-sub-copy : tie.Need-sub-copy
-sub-copy c =
-    let k = rw (c .before .before .before .reply2 .given .1) at (c .before .before .before .before .before .before .before .pre .1) in
-    omega (arith, k)
-
-part-copy-start : tie.Need-part-copy-start
-part-copy-start c =
-    let k = rw (c .before .before .before .reply2 .given .1) at (c .before .before .before .before .before .before .before .pre .1) in
-    omega (arith, k)
-
-part-copy-end : tie.Need-part-copy-end
-part-copy-end c = search needs
-
-copy-requires : tie.Need-copy-requires
-copy-requires c κs = search needs
+change-password-requires : tie.Need-change-password-requires
+change-password-requires c κs =
+    let k = rw (c .before .before .reply2 .given .1) at (c .before .before .before .before .before .before .pre .1) in
+    k
 
 enum-told-3 : tie.Need-enum-told-3
 enum-told-3 c = search needs
@@ -112,13 +95,10 @@ empty-requires c κs = search needs
 enum-known-reply-6 : tie.Need-enum-known-reply-6
 enum-known-reply-6 c = search needs
 
-mode-send-of-requires : tie.Need-mode-send-of-requires
-mode-send-of-requires c κs =
-    let k = rw (c .before .before .before .reply6 .given .1) at (c .before .before .before .before .before .before .before .pre .1) in
+open-if-requires : tie.Need-open-if-requires
+open-if-requires c κs =
+    let k = rw (c .before .before .reply6 .given .1) at (c .before .before .before .before .before .before .pre .1) in
     k
-
-open-session-requires : tie.Need-open-session-requires
-open-session-requires c κs = search needs
 
 enum-told-6 : tie.Need-enum-told-6
 enum-told-6 c = search needs
@@ -130,64 +110,49 @@ returns-2 : tie.Need-returns-2
 returns-2 c = rw (c .enum-told2 .given .1)
 
 returns-3 : tie.Need-returns-3
-returns-3 c = rw (c .before .before .reply .given .1, eq-eqb _ _ (c .if1 .taken))
+returns-3 c = rw (c .before .before .before .reply .given .1, c .log-in .ensures)
 
 returns-4 : tie.Need-returns-4
-returns-4 c = rw (c .before .before .reply .given .1, ne-eqb _ _ (c .if1 .left))
+returns-4 c = rw (c .before .before .before .reply2 .given .1, c .change-password .ensures)
 
 returns-5 : tie.Need-returns-5
-returns-5 c =
-    let k = rw (c .before .before .before .before .before .reply2 .given .1) at (c .before .before .before .before .before .before .before .before .before .pre .1) in
-    let d = c .before .before .before .before .before .before .before .before .before .args .payload .now in
-    let p = c .before .before .before .before .before .before .before .before .before .args .password .now in
-    let long : length p ≡ passwordSize = search needs in
-    let stored = c .copy .ensures ∙ ap (sets p 0) (rest d passwordSize) ∙ sets-whole p (drop passwordSize d) (rw (length-drop passwordSize d) (omega (arith, k, long))) in
-    rw (c .before .before .before .before .before .reply2 .given .1, eq-eqb _ _ (c .before .before .before .if2 .taken), stored)
-
-returns-6 : tie.Need-returns-6
-returns-6 c = rw (c .before .before .reply2 .given .1, ne-eqb _ _ (c .if2 .left))
-
-returns-7 : tie.Need-returns-7
-returns-7 c = rw (c .enum-told3 .given .1)
+returns-5 c = rw (c .enum-told3 .given .1)
 
 same-length : tie.Need-same-length
 same-length c = search needs
 
-returns-8 : tie.Need-returns-8
-returns-8 c = rw (c .before .before .before .before .before .before .reply3 .given .1, c .before .before .set-variation .ensures .table, c .before .before .before .byte .ensures)
+returns-6 : tie.Need-returns-6
+returns-6 c = rw (c .before .before .before .before .before .before .reply3 .given .1, c .before .before .set-variation .ensures .table, c .before .before .before .byte .ensures)
 
 same-length-2 : tie.Need-same-length-2
 same-length-2 c = search needs
 
-returns-9 : tie.Need-returns-9
-returns-9 c = rw (c .before .before .before .before .before .before .reply4 .given .1, c .before .before .set-name .ensures .table, rest (c .before .before .before .before .before .before .before .before .before .before .args .payload .now) 1)
+returns-7 : tie.Need-returns-7
+returns-7 c = rw (c .before .before .before .before .before .before .reply4 .given .1, c .before .before .set-name .ensures .table, rest (c .before .before .before .before .before .before .before .before .before .before .args .payload .now) 1)
 
 same-length-3 : tie.Need-same-length-3
 same-length-3 c = search needs
 
-returns-10 : tie.Need-returns-10
-returns-10 c = rw (c .before .before .before .before .before .before .reply5 .given .1, c .before .before .set-order-and-placement .ensures .table, rest (c .before .before .before .before .before .before .before .before .before .before .args .payload .now) 1)
+returns-8 : tie.Need-returns-8
+returns-8 c = rw (c .before .before .before .before .before .before .reply5 .given .1, c .before .before .set-order-and-placement .ensures .table, rest (c .before .before .before .before .before .before .before .before .before .before .args .payload .now) 1)
 
 same-length-4 : tie.Need-same-length-4
 same-length-4 c = search needs
 
-returns-11 : tie.Need-returns-11
-returns-11 c = rw (c .before .before .before .before .before .before .before .enum-told4 .given .1, c .before .before .before .before .close-removed .ensures, c .before .before .remove .ensures)
+returns-9 : tie.Need-returns-9
+returns-9 c = rw (c .before .before .before .before .before .before .before .enum-told4 .given .1, c .before .before .before .before .close-removed .ensures, c .before .before .remove .ensures)
 
 same-length-5 : tie.Need-same-length-5
 same-length-5 c = search needs
 
+returns-10 : tie.Need-returns-10
+returns-10 c = rw (c .before .before .before .before .before .before .enum-told5 .given .1, c .before .before .before .before .close-all .ensures, c .before .before .empty .ensures)
+
+returns-11 : tie.Need-returns-11
+returns-11 c = rw (c .before .before .before .reply6 .given .1, c .open-if .ensures)
+
 returns-12 : tie.Need-returns-12
-returns-12 c = rw (c .before .before .before .before .before .before .enum-told5 .given .1, c .before .before .before .before .close-all .ensures, c .before .before .empty .ensures)
-
-returns-13 : tie.Need-returns-13
-returns-13 c = rw (c .before .before .before .before .before .reply6 .given .1, eq-eqb _ _ (c .before .before .before .if3 .taken), c .open-session .ensures, c .before .mode-send-of .ensures)
-
-returns-14 : tie.Need-returns-14
-returns-14 c = rw (c .before .before .reply6 .given .1, ne-eqb _ _ (c .if3 .left))
-
-returns-15 : tie.Need-returns-15
-returns-15 c = rw (c .enum-told6 .given .1)
+returns-12 c = rw (c .enum-told6 .given .1)
 
 pub carry-out-spec : {M : Type 1} → statement M
 carry-out-spec =
@@ -196,12 +161,9 @@ carry-out-spec =
     enum-told
     enum-told-2
     enum-known-reply
-    element-write-logins
+    log-in-requires
     enum-known-reply-2
-    sub-copy
-    part-copy-start
-    part-copy-end
-    copy-requires
+    change-password-requires
     enum-told-3
     enum-known-reply-3
     byte-requires
@@ -223,26 +185,22 @@ carry-out-spec =
     close-all-requires
     empty-requires
     enum-known-reply-6
-    mode-send-of-requires
-    open-session-requires
+    open-if-requires
     enum-told-6
     returns
     returns-2
     returns-3
     returns-4
     returns-5
-    returns-6
-    returns-7
     same-length
-    returns-8
+    returns-6
     same-length-2
-    returns-9
+    returns-7
     same-length-3
-    returns-10
+    returns-8
     same-length-4
-    returns-11
+    returns-9
     same-length-5
-    returns-12
-    returns-13
-    returns-14
-    returns-15)
+    returns-10
+    returns-11
+    returns-12)
