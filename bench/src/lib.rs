@@ -14,6 +14,7 @@ pub mod input;
 pub mod mix;
 pub mod outcome;
 pub mod paper;
+pub mod places;
 pub mod plain;
 pub mod random;
 pub mod reach;
