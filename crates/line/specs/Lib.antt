@@ -15,9 +15,9 @@ pub mod ReaderVectors
 pub mod PlaceVectors
 pub mod ScanLaws
 pub mod ReaderLaws
+pub mod EveryLaws
 pub mod PieceLaws
 pub mod ByPieces
-pub mod EveryLaws
 pub mod PlaceLaws
 pub mod StandingLaws
 pub mod PlacedLaws

@@ -18,6 +18,7 @@ use Rattle.line.specs.Scan.{also, outcomes, final}
 use Rattle.line.specs.Reader.{limit, wrongEscape, tooLong, State, plain, escaped, skipping, emptied, held, Outcome, decoded, inner, inside, close, step}
 use Rattle.line.specs.ReaderLaws.{cond-holds, inside-append, inside-skipping, inside-escaped}
 use Rattle.line.specs.Answers.{at, taken}
+use Rattle.line.specs.EveryLaws.{every-append, every-replicate}
 use Rattle.line.specs.Pieces.{closed, last, Symbol, byte, wrong, half, symbols, settle, decode, outcome, pieceOutcomes, joined, Every, NoEnd, Bytes, written}
 
 -- ---- a piece
@@ -188,17 +189,9 @@ written-reaches (skipping WrongEscape) x = refl
 written-reaches (skipping TooLong) x = refl
 
 module _ {A : Type 0} (P : A → Type 0) where
-  every-append : (p q : List A) → Every P p → Every P q → Every P (p ++ q)
-  every-append [] q x y = y
-  every-append (a ∷ p) q x y = (x .0, every-append p q (x .1) y)
-
   every-all : ((a : A) → P a) → (p : List A) → Every P p
   every-all f [] = tt
   every-all f (a ∷ p) = (f a, every-all f p)
-
-  every-replicate : (n : ℕ) (a : A) → P a → Every P (replicate n a)
-  every-replicate zero a x = tt
-  every-replicate (suc n) a x = (x, every-replicate n a x)
 
 every-map : {A : Type 0} (P Q : A → Type 0) → ((a : A) → P a → Q a) → (p : List A) → Every P p → Every Q p
 every-map P Q f [] x = tt

@@ -23,6 +23,9 @@ pub slots-count : (b : List ℕ) → length (slotsOf b) ≡ slotCount
 unfolding slotsOf
 slots-count b = below-count (λ k. slotFrom b (k * slotSize)) slotCount
 
+pub slot-within : (b : List ℕ) (k : ℕ) → k < slotCount → k < length (slotsOf b)
+slot-within b k h = rw (slots-count b) h
+
 pub slotAt-from : (b : List ℕ) (k : ℕ) → k < slotCount → slotAt b k ≡ slotFrom b (k * slotSize)
 unfolding slotsOf
 slotAt-from b k h = below-at (λ k. slotFrom b (k * slotSize)) slotCount k closedSlot h

@@ -1,13 +1,13 @@
 use borrow.Author.Needs.{needs}
 use Rattle.sessions.specs.Sessions.{slotCount, slotsOf, holds}
-use Rattle.sessions.specs.SlotLaws.{slots-count}
+use Rattle.sessions.specs.SlotLaws.{slots-count, slot-within}
 use Rattle.sessions.specs.SearchLaws.{any-on, any-found, any-end, any-swap}
 use Rattle.sessions.specs.Search.{any}
 use Rattle.sessions.specs.declared.Slot.{Slot}
-use lib.ListN.{length, drop}
+use lib.ListN.{drop}
 use mathlib.Core.List.{List}
 use mathlib.Core.Bool.{Bool}
-use Prim.Native.Nat.{ℕ, _-_, _≤_, _<_}
+use Prim.Native.Nat.{ℕ, _-_, _≤_}
 use mathlib.Core.Path.{_≡_, refl, sym, ap, _∙_}
 use Rattle.sessions.proofs.opening.any_held.Statement.{statement}
 use Rattle.sessions.proofs.opening.any_held.Tie as tie
@@ -23,9 +23,6 @@ Inv-loop slots indices k₀ k = (k ≤ slotCount) × (any (holdsOne indices) (sl
 abbrev μ-loop : tie.MeasureT-loop
 μ-loop slots indices k₀ k = slotCount - k
 
-within : (b : List ℕ) (k : ℕ) → k < slotCount → k < length (slotsOf b)
-within b k h = rw (slots-count b) h
-
 loop-holds : tie.Need-loop-holds Inv-loop μ-loop
 loop-holds c = (search needs, refl)
 
@@ -36,7 +33,7 @@ holds-any-requires : tie.Need-holds-any-requires Inv-loop μ-loop
 holds-any-requires c κs = search needs
 
 returns : tie.Need-returns Inv-loop μ-loop
-returns c = sym (any-swap (λ n s. holds n s) (c .before .before .before .before .before .before .args .indices .now) (slotsOf (c .before .before .before .before .before .before .args .slots .now)) ∙ c .before .before .before .before .loop .inv .1 ∙ any-found _ _ _ _ (within (c .before .before .before .before .before .before .args .slots .now) _ (c .before .before .before .loop-test .taken)) (ap (holdsOne _) (sym (c .before .before .slot-at .ensures)) ∙ sym (c .before .holds-any .ensures) ∙ c .if1 .taken))
+returns c = sym (any-swap (λ n s. holds n s) (c .before .before .before .before .before .before .args .indices .now) (slotsOf (c .before .before .before .before .before .before .args .slots .now)) ∙ c .before .before .before .before .loop .inv .1 ∙ any-found _ _ _ _ (slot-within (c .before .before .before .before .before .before .args .slots .now) _ (c .before .before .before .loop-test .taken)) (ap (holdsOne _) (sym (c .before .before .slot-at .ensures)) ∙ sym (c .before .holds-any .ensures) ∙ c .if1 .taken))
 
 add-k : tie.Need-add-k Inv-loop μ-loop
 add-k c = search needs
@@ -45,7 +42,7 @@ loop-less : tie.Need-loop-less Inv-loop μ-loop
 loop-less c = search needs
 
 loop-again : tie.Need-loop-again Inv-loop μ-loop
-loop-again c = (search needs, c .before .before .before .before .loop .inv .1 ∙ any-on _ _ _ _ (within (c .before .before .before .before .before .before .args .slots .now) _ (c .before .before .before .loop-test .taken)) (ap (holdsOne _) (sym (c .before .before .slot-at .ensures)) ∙ sym (c .before .holds-any .ensures) ∙ c .if1 .left))
+loop-again c = (search needs, c .before .before .before .before .loop .inv .1 ∙ any-on _ _ _ _ (slot-within (c .before .before .before .before .before .before .args .slots .now) _ (c .before .before .before .loop-test .taken)) (ap (holdsOne _) (sym (c .before .before .slot-at .ensures)) ∙ sym (c .before .holds-any .ensures) ∙ c .if1 .left))
 
 returns-2 : tie.Need-returns-2 Inv-loop μ-loop
 returns-2 c = sym (any-swap (λ n s. holds n s) (c .before .before .before .args .indices .now) (slotsOf (c .before .before .before .args .slots .now)) ∙ c .before .loop .inv .1 ∙ any-end _ (slotsOf (c .before .before .before .args .slots .now)) (c .before .loop .k) (rw (slots-count (c .before .before .before .args .slots .now)) (c .loop-test .left)))

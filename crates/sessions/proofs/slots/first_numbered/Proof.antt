@@ -1,12 +1,11 @@
-use mathlib.Core.List.{List}
 use borrow.Author.Needs.{needs}
 use Rattle.sessions.specs.Sessions.{slotCount, slotsOf, isNumbered}
-use Rattle.sessions.specs.SlotLaws.{slots-count}
+use Rattle.sessions.specs.SlotLaws.{slots-count, slot-within}
 use Rattle.sessions.specs.SearchLaws.{first-on, first-found, first-end}
 use Rattle.sessions.specs.Search.{first}
 use native.Mathlib.Nat.{zero-add}
-use lib.ListN.{length, drop}
-use Prim.Native.Nat.{ℕ, _+_, _-_, _≤_, _<_}
+use lib.ListN.{drop}
+use Prim.Native.Nat.{_+_, _-_, _≤_}
 use mathlib.Core.Path.{_≡_, sym, ap, _∙_}
 use Rattle.sessions.proofs.slots.first_numbered.Statement.{statement}
 use Rattle.sessions.proofs.slots.first_numbered.Tie as tie
@@ -18,9 +17,6 @@ Inv-loop slots number k₀ k = (k ≤ slotCount) × (first (isNumbered number) (
 abbrev μ-loop : tie.MeasureT-loop
 μ-loop slots number k₀ k = slotCount - k
 
-within : (b : List ℕ) (k : ℕ) → k < slotCount → k < length (slotsOf b)
-within b k h = rw (slots-count b) h
-
 loop-holds : tie.Need-loop-holds Inv-loop μ-loop
 loop-holds c = (search needs, sym (zero-add _))
 
@@ -31,7 +27,7 @@ is-numbered-requires : tie.Need-is-numbered-requires Inv-loop μ-loop
 is-numbered-requires c κs = search needs
 
 returns : tie.Need-returns Inv-loop μ-loop
-returns c = sym (c .before .before .before .before .loop .inv .1 ∙ first-found _ _ _ _ (within (c .before .before .before .before .before .args .slots .now) _ (c .before .before .before .loop-test .taken)) (ap (isNumbered _) (sym (c .before .before .slot-at .ensures)) ∙ sym (c .before .is-numbered .ensures) ∙ c .if1 .taken))
+returns c = sym (c .before .before .before .before .loop .inv .1 ∙ first-found _ _ _ _ (slot-within (c .before .before .before .before .before .args .slots .now) _ (c .before .before .before .loop-test .taken)) (ap (isNumbered _) (sym (c .before .before .slot-at .ensures)) ∙ sym (c .before .is-numbered .ensures) ∙ c .if1 .taken))
 
 add-k : tie.Need-add-k Inv-loop μ-loop
 add-k c = search needs
@@ -40,7 +36,7 @@ loop-less : tie.Need-loop-less Inv-loop μ-loop
 loop-less c = search needs
 
 loop-again : tie.Need-loop-again Inv-loop μ-loop
-loop-again c = (search needs, c .before .before .before .before .loop .inv .1 ∙ first-on _ _ _ _ (within (c .before .before .before .before .before .args .slots .now) _ (c .before .before .before .loop-test .taken)) (ap (isNumbered _) (sym (c .before .before .slot-at .ensures)) ∙ sym (c .before .is-numbered .ensures) ∙ c .if1 .left))
+loop-again c = (search needs, c .before .before .before .before .loop .inv .1 ∙ first-on _ _ _ _ (slot-within (c .before .before .before .before .before .args .slots .now) _ (c .before .before .before .loop-test .taken)) (ap (isNumbered _) (sym (c .before .before .slot-at .ensures)) ∙ sym (c .before .is-numbered .ensures) ∙ c .if1 .left))
 
 returns-2 : tie.Need-returns-2 Inv-loop μ-loop
 returns-2 c = sym (c .before .loop .inv .1 ∙ first-end _ (slotsOf (c .before .before .args .slots .now)) (c .before .loop .k) (rw (slots-count (c .before .before .args .slots .now)) (c .loop-test .left)))
