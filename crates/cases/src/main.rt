@@ -1,10 +1,13 @@
 // Boundary cases of reading, run and held to the file stdout: the line reader on wire bytes, whole and cut in two at every place,
-// and on records that claim too much; such records, lent to the hub.
+// and on records that claim too much or skip at places that no bytes could leave; such records, lent to the hub.
 use libc::STDOUT_FILENO;
+use line::DecodedPlace;
 use line::Fault;
+use line::FaultAt;
 use line::Mode;
 use line::PacketOutcome;
 use line::Reading;
+use line::WirePlace;
 use rules::FedByValue;
 use text::COLON;
 use text::GAP;
@@ -41,6 +44,9 @@ const REFUSED: [u8; 9] = *b" refused ";
 
 const TOO_MANY: [u8; 9] = *b" too many";
 
+// An escaped END.
+const PAIR: [u8; 2] = [line::ESC, line::ESC_END];
+
 fn print(page: &[u8], end: usize) {
     if end <= page.len() {
         io::write_all(STDOUT_FILENO, &page[0..end]);
@@ -67,19 +73,24 @@ fn put_outcome(out: &mut [u8], at: usize, outcome: PacketOutcome, reading: Readi
     match outcome {
         PacketOutcome::Nothing => at,
         PacketOutcome::Packet(n) => put_held(out, at, &PACKET, reading, n),
-        PacketOutcome::Refused(fault) => {
-            text::append_numbered(out, at, &REFUSED, number_of(fault), &NOTHING)
-        }
+        PacketOutcome::Refused(fault) => put_fault(out, at, &REFUSED, fault, &NOTHING),
     }
+}
+
+// A fault between two words: its number, and where it is.
+fn put_fault(out: &mut [u8], at: usize, word: &[u8], fault: FaultAt, last: &[u8]) -> usize {
+    let kind = fault.fault;
+    let places = fault.at;
+    let number = text::append_numbered(out, at, word, number_of(kind), &NOTHING);
+    let end = text::append_places(out, number, places);
+    text::append(out, end, last)
 }
 
 fn put_mode(out: &mut [u8], at: usize, mode: Mode) -> usize {
     match mode {
         Mode::Plain => text::append(out, at, &PLAIN),
         Mode::Escaped => text::append(out, at, &ESCAPED),
-        Mode::Skipping(fault) => {
-            text::append_numbered(out, at, &SKIPPING, number_of(fault), &HOLDS)
-        }
+        Mode::Skipping(fault) => put_fault(out, at, &SKIPPING, fault, &HOLDS),
     }
 }
 
@@ -143,18 +154,43 @@ fn cuts_agree(wire: &[u8], whole: &[u8]) -> bool {
 
 // The wire is an END, n times 55, then `tail`.
 fn show_case(name: &[u8], n: usize, tail: &[u8]) {
-    let mut wire = [0x55u8; 300];
+    show_escaped(name, 0, n, tail);
+}
+
+// The wire is an END, so many escaped ENDs, n times 55, then `tail`.
+fn show_escaped(name: &[u8], pairs: usize, n: usize, tail: &[u8]) {
+    let mut wire = [0x55u8; 600];
     wire[0] = line::END;
+    if 256 < pairs {
+        return;
+    }
     if 256 < n {
         return;
     }
     if 40 < tail.len() {
         return;
     }
-    let end = 1 + n;
+    put_pairs(&mut wire, pairs);
+    let end = 1 + 2 * pairs + n;
     memory::copy(&mut wire, end, tail);
+    let whole = end + tail.len();
+    if 600 < whole {
+        return;
+    }
     io::write_all(STDOUT_FILENO, name);
-    show_cuts(&wire[0..end + tail.len()]);
+    show_cuts(&wire[0..whole]);
+}
+
+// Escaped ENDs behind the first byte, no more than 256.
+fn put_pairs(wire: &mut [u8], pairs: usize) {
+    let mut k = 0;
+    while k < pairs {
+        if 256 < k {
+            return;
+        }
+        memory::copy(wire, 1 + 2 * k, &PAIR);
+        k += 1;
+    }
 }
 
 fn show_cuts(wire: &[u8]) {
@@ -216,6 +252,43 @@ fn show_too_long() {
     show_case(b"open after 256 bytes", 256, b"\x01");
 }
 
+fn show_places() {
+    show_escaped(b"escapes before a wrong escape", 2, 1, b"\xDB\x00\x05\xC0");
+    show_escaped(
+        b"escapes behind a wrong escape",
+        0,
+        1,
+        b"\xDB\x07\xDB\xDC\xDB\xDB\xC0",
+    );
+    show_escaped(b"ESC behind 255 escaped, then END", 255, 0, b"\xDB\xC0");
+    show_escaped(
+        b"ESC behind 255 escaped, then another byte",
+        255,
+        0,
+        b"\xDB\x01\xC0",
+    );
+}
+
+fn show_long_places() {
+    show_escaped(b"255 decoded bytes, 100 escaped", 100, 155, b"\xC0");
+    show_escaped(b"255 decoded bytes, all escaped", 255, 0, b"\xC0");
+    show_escaped(b"256 decoded bytes, 100 escaped", 100, 155, b"\x01\xC0");
+    show_escaped(b"256 decoded bytes, all escaped", 256, 0, b"\xC0");
+    show_escaped(
+        b"256 decoded bytes, all but the last escaped",
+        255,
+        0,
+        b"\x01\xC0",
+    );
+    show_escaped(
+        b"256 decoded bytes, escapes behind",
+        0,
+        256,
+        b"\xDB\xDC\xDB\xDD\xC0",
+    );
+    show_escaped(b"open after 256 escaped bytes", 256, 0, b"\xDB");
+}
+
 // A lent record of any mode and count, in one call on some bytes.
 fn show_record(mode: Mode, count: usize, wire: &[u8]) {
     let bytes = [0x55u8; line::LIMIT];
@@ -249,8 +322,14 @@ fn put_title(out: &mut [u8], word: &[u8], mode: Mode, count: usize) -> usize {
 fn show_modes(count: usize, wire: &[u8]) {
     show_record(Mode::Plain, count, wire);
     show_record(Mode::Escaped, count, wire);
-    show_record(Mode::Skipping(Fault::WrongEscape), count, wire);
-    show_record(Mode::Skipping(Fault::TooLong), count, wire);
+    show_record(skipping(Fault::WrongEscape, 7, 3), count, wire);
+    show_record(skipping(Fault::TooLong, 300, 255), count, wire);
+}
+
+// A record that skips for a fault at these places.
+fn skipping(fault: Fault, wire: u16, decoded: u16) -> Mode {
+    let at = line::places_at(WirePlace(wire), DecodedPlace(decoded));
+    Mode::Skipping(FaultAt { fault, at })
 }
 
 fn show_counts(wire: &[u8]) {
@@ -259,6 +338,51 @@ fn show_counts(wire: &[u8]) {
     show_modes(255, wire);
     show_modes(256, wire);
     show_modes(18446744073709551615, wire);
+}
+
+// Records that skip at the bounds of the possible places, and one beyond each, read up to an END.
+fn show_escape_bounds(wire: u16, decoded: u16) {
+    show_record(skipping(Fault::WrongEscape, wire, decoded), 0, b"\xC0");
+}
+
+fn show_long_bounds(wire: u16, decoded: u16) {
+    show_record(skipping(Fault::TooLong, wire, decoded), 0, b"\xC0");
+}
+
+fn show_first_bounds() {
+    show_escape_bounds(0, 0);
+    show_escape_bounds(1, 0);
+    show_escape_bounds(2, 0);
+    show_escape_bounds(3, 3);
+    show_escape_bounds(4, 3);
+    show_escape_bounds(7, 3);
+    show_escape_bounds(8, 3);
+}
+
+fn show_last_bounds() {
+    show_escape_bounds(255, 255);
+    show_escape_bounds(256, 255);
+    show_escape_bounds(511, 255);
+    show_escape_bounds(512, 255);
+    show_escape_bounds(257, 256);
+    show_escape_bounds(0, 65535);
+    show_escape_bounds(65535, 65535);
+}
+
+fn show_256th_bounds() {
+    show_long_bounds(254, 255);
+    show_long_bounds(255, 255);
+    show_long_bounds(510, 255);
+    show_long_bounds(511, 255);
+    show_long_bounds(254, 254);
+    show_long_bounds(256, 256);
+    show_long_bounds(65535, 255);
+}
+
+// Impossible places with bytes claimed.
+fn show_claimed_bounds(count: usize) {
+    show_record(skipping(Fault::WrongEscape, 8, 3), count, b"\xC0");
+    show_record(skipping(Fault::TooLong, 511, 255), count, b"\xC0");
 }
 
 // A lent record of any mode and count, fed to a hub before any start: the bytes of P3 behind its first END.
@@ -287,8 +411,9 @@ fn show_hub() {
     show_fed(Mode::Plain, 0);
     show_fed(Mode::Plain, 256);
     show_fed(Mode::Escaped, 256);
-    show_fed(Mode::Skipping(Fault::WrongEscape), 3);
-    show_fed(Mode::Skipping(Fault::TooLong), 256);
+    show_fed(skipping(Fault::WrongEscape, 7, 3), 3);
+    show_fed(skipping(Fault::TooLong, 300, 255), 256);
+    show_fed(skipping(Fault::WrongEscape, 8, 3), 0);
 }
 
 fn main() {
@@ -298,8 +423,16 @@ fn main() {
     show_long();
     show_full();
     show_too_long();
+    show_places();
+    show_long_places();
     show_counts(b"");
     show_counts(b"\xC0");
     show_counts(b"\xDC\xC0");
+    show_first_bounds();
+    show_last_bounds();
+    show_256th_bounds();
+    show_claimed_bounds(1);
+    show_claimed_bounds(255);
+    show_claimed_bounds(256);
     show_hub();
 }

@@ -62,7 +62,7 @@ given =
     ∷ record { answer = refused 9; reply = [] }
     ∷ record { answer = refused 8; reply = [] }
     ∷ record { answer = told 0 none 0; reply = [] }
-    ∷ record { answer = told 3 (some (frames.refused 6)) 8; reply = errorReply }
+    ∷ record { answer = told 3 (some (frames.refused (record { number = 6; at = frames.placesAt 4 4 }))) 8; reply = errorReply }
     ∷ record { answer = told 6 (some (frame 0x0008 [])) 8; reply = wire 0x0000 (12 ∷ []) }
     ∷ record { answer = told 7 (some (frame 0x0200 (5 ∷ []))) 9; reply = wire 0x0201 (2 ∷ 5 ∷ []) }
     ∷ []
@@ -72,7 +72,7 @@ unfoldable its : List Bool
 its = false ∷ true ∷ false ∷ true ∷ false ∷ true ∷ true ∷ false ∷ false ∷ []
 
 example-results : results hub start entries ≡ given
-unfolding overfull start worldOf entry entries given serve rules.respond bytesOf aboutNode rules.request rules.enter same table.inUse lookup.verdict lookup.verdictOf lookup.find directory results feed returned call decided settled serveIf stateFor scan onward step verdict inner line.step line.decoded line.close line.wrongEscape line.tooLong judge wire escape framed body frames.tooLong frames.tooShort frames.wrongProtocol frames.wrongLength frames.wrongCheck xorAll _⊕_
+unfolding overfull start worldOf entry entries given serve rules.respond bytesOf aboutNode rules.request rules.enter same table.inUse lookup.verdict lookup.verdictOf lookup.find directory results feed returned call decided settled serveIf stateFor scan onward step verdict inner line.step line.decoded line.close line.wrongEscape line.tooLong judge wire escape framed body frames.tooLong frames.tooShort frames.wrongProtocol frames.belowLength frames.beyondLength frames.wireLength frames.onWire frames.byteAt frames.behind frames.wrongCheck xorAll _⊕_
 example-results = refl
 
 example-marks : marks 0 1 entries (answers given) ≡ its

@@ -122,7 +122,7 @@ pub record Demand1 : Type 0 where
   pub without : {m e : Memory} {ss : List Step} {os : List Return} → Steps m ss os e
       → Steps m (unmarked (map isRefused os) ss) (unmarked (map isRefused os) os) e
   -- "a refused packet is used up and brings one error reply only."
-  pub used-up : {m v : Memory} {g : Lent} {o : Got hub} → Made m (feed g) (fed o) v → (u n k : ℕ) → o .answer ≡ told u (some (packet.refused n)) k
+  pub used-up : {m v : Memory} {g : Lent} {o : Got hub} → Made m (feed g) (fed o) v → (u : ℕ) (n : packet.Refusal) (k : ℕ) → o .answer ≡ told u (some (packet.refused n)) k
       → Answered m g o v u (some (packet.refused n)) k (record { hub = m .hub; table = m .table; reply = errorReply })
 
 -- ---- Demand 2
@@ -278,7 +278,7 @@ made-served (feeds {m} {g} {a} {h} {t} {e = r′} {left} x) u y k e =
     }
 
 -- and a refused packet by the error reply only
-made-used-up : {m v : Memory} {g : Lent} {o : Got hub} → Made m (feed g) (fed o) v → (u n k : ℕ) → o .answer ≡ told u (some (packet.refused n)) k
+made-used-up : {m v : Memory} {g : Lent} {o : Got hub} → Made m (feed g) (fed o) v → (u : ℕ) (n : packet.Refusal) (k : ℕ) → o .answer ≡ told u (some (packet.refused n)) k
     → Answered m g o v u (some (packet.refused n)) k (record { hub = m .hub; table = m .table; reply = errorReply })
 unfolding serveIf
 made-used-up {m} {g = g} x u n k e = rw (only-error-reply (m .hub) (m .table) (g .line) n) at (made-served x u (some (packet.refused n)) k e)

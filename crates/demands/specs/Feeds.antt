@@ -26,7 +26,7 @@ use Rattle.rules.specs.Longest.{longestReply, room-enough}
 
 module _ (h : Hub) (t : List ℕ) (s : State) (l : ℕ) (bytes : List ℕ) (room : ℕ) where
   -- a refused packet is used up, to its END, and brings one error reply only
-  pub refused-packet : (n : ℕ) → feedRefusal h t s l bytes room ≡ none → read s bytes .outcome ≡ some (frames.refused n)
+  pub refused-packet : (n : frames.Refusal) → feedRefusal h t s l bytes room ≡ none → read s bytes .outcome ≡ some (frames.refused n)
       → call hub h t s l bytes room ≡ record {
         hub = h;
         table = t;

@@ -5,14 +5,16 @@ use mathlib.Core.List.{List, [], _∷_, _++_, map}
 use mathlib.Core.Option.{Option}
 use lib.ListN.{length, take, drop, getD}
 use lib.Seq.{take-at, drop-at}
-use Rattle.frame.specs.Line.{closed, last, decode, pieceOutcomes, written}
-use Rattle.frame.specs.Frame.{Outcome, frame, commandOf, dataOf, judge, wire, maxData}
+use Rattle.frame.specs.Line.{NoEnd, closed, last, decode, pieceOutcomes, written}
+use Rattle.frame.specs.Frame.{Refusal, Outcome, frame, refused, commandOf, dataOf, judge, wire, maxData}
 use Rattle.frame.specs.declared.Written.{Written}
 use Rattle.frame.specs.Writer as writer
 use Rattle.frame.specs.Writer.{upTo, write, Writes}
 use Rattle.frame.specs.WireLaws.{write-done}
+use Rattle.frame.specs.Places.{InPiece}
+use Rattle.frame.specs.PlaceLaws.{refused-in-piece}
 use Rattle.frame.specs.JudgeLaws.{Accepted, judge-accepted, judge-frame, accepted-judge}
-use Rattle.frame.specs.Reader.{outcomes, final, emptied, emptiedReading, step, taken, judged}
+use Rattle.frame.specs.Reader.{outcomes, final, plain, emptied, emptiedReading, step, taken, judged}
 use Rattle.frame.specs.ReaderLaws.{by-pieces-taken}
 use Rattle.feeds.specs.System.{told}
 use Rattle.feeds.specs.Sent.{frameOf, sent}
@@ -38,6 +40,8 @@ pub record ReadExactly : Type 0 where
   -- a packet is a frame exactly if it passes every check; its command and data are those in their places
   pub accepted : (h : List ℕ) → Accepted h → judge h ≡ frame (commandOf h) (dataOf h)
   pub checked : (h : List ℕ) (c : ℕ) (d : List ℕ) → judge h ≡ frame c d → Accepted h × (c ≡ commandOf h) × (d ≡ dataOf h)
+  -- a packet that a check refuses is told at places of the piece p that gave it (document 02, CR 2); a fault's are counted along its piece
+  pub placed : (p h : List ℕ) (n : Refusal) → NoEnd p → decode p ≡ plain h → judge h ≡ refused n → InPiece p h (n .at)
 
 -- the room that the writer leaves where it writes n bytes
 pub record Wrote (room : List ℕ) (c : ℕ) (d : List ℕ) (n : ℕ) (left : List ℕ) : Type 0 where
@@ -65,6 +69,7 @@ read-exactly outcome state = record {
   kept = λ l f line. state l f line ∙ by-pieces-taken (recordAt l (feedsOf f)) (usedIn l (feedsOf f)) .kept;
   accepted = accepted-judge;
   checked = λ h c d e. (judge-accepted {h = h} e, judge-frame h e .0, judge-frame h e .1);
+  placed = refused-in-piece;
 }
 
 -- and of what is read back

@@ -10,15 +10,16 @@ use lib.Seq.{take-append-seam}
 use lib.Dec.{ltb, eqb}
 use Rattle.line.specs.declared.Reading.{Reading}
 use Rattle.line.specs.declared.Mode.the-variants.{Plain}
-use Rattle.frame.specs.declared.PacketRefusal.{PacketRefusal as Cause}
-use Rattle.frame.specs.declared.PacketRefusal.the-variants as cause
+use Rattle.frame.specs.declared.Cause.{Cause}
+use Rattle.frame.specs.declared.Cause.the-variants as cause
 use Rattle.frame.specs.declared.FrameOutcome.{FrameOutcome as Given}
 use Rattle.frame.specs.declared.FrameOutcome.the-variants as given
-use Rattle.frame.specs.Frame.{Outcome, frame, refused, refusal, head}
+use Rattle.frame.specs.Frame as packet
+use Rattle.frame.specs.Frame.{Numbered, low, longer, Outcome, frame, refused, head}
 use Rattle.frame.specs.Answers as answers
-use Rattle.frame.specs.Line.{limit, recordOf, taken-held, taken-record, record-bounded}
-use Rattle.frame.specs.Reader.{State, emptiedReading, held, taken, read}
-use Rattle.frame.specs.ReaderLaws.{closed-number, read-told, read-held, read-data}
+use Rattle.frame.specs.Line.{limit, Reachable, recordOf, taken-reachable, taken-record, record-bounded}
+use Rattle.frame.specs.Reader.{State, emptiedReading, taken, read}
+use Rattle.frame.specs.ReaderLaws.{closed-number, read-told, read-reachable, read-data}
 use Rattle.nodes.specs.Table.{tableSize, isNode, inUse, emptied, enrolled}
 use Rattle.sessions.specs.Sessions as sessions
 use Rattle.feeds.specs.System as system
@@ -84,16 +85,20 @@ finish-any h x room = go (ltb (length room) (length (notice x))) refl (sessions.
 
 -- ---- feed
 
--- each number of a packet's refusal is that of a cause
-causeOf : (n : ℕ) → 1 ≤ n → n ≤ 6 → (c : Cause) × (refusal c ≡ n)
-causeOf zero l g = absurd (omega arith)
-causeOf (suc zero) l g = (cause.WrongEscape, refl)
-causeOf (suc (suc zero)) l g = (cause.TooLong, refl)
-causeOf (suc (suc (suc zero))) l g = (cause.TooShort, refl)
-causeOf (suc (suc (suc (suc zero)))) l g = (cause.WrongProtocol, refl)
-causeOf (suc (suc (suc (suc (suc zero))))) l g = (cause.WrongLength, refl)
-causeOf (suc (suc (suc (suc (suc (suc zero)))))) l g = (cause.WrongCheck, refl)
-causeOf (suc (suc (suc (suc (suc (suc (suc n))))))) l g = absurd (omega arith)
+-- each number of a packet refusal is that of a cause
+lowCause : (n : ℕ) → 1 ≤ n → n ≤ 6 → (c : Cause) × (packet.number c ≡ n)
+lowCause zero l g = absurd (omega arith)
+lowCause (suc zero) l g = (cause.WrongEscape, refl)
+lowCause (suc (suc zero)) l g = (cause.TooLong, refl)
+lowCause (suc (suc (suc zero))) l g = (cause.TooShort, refl)
+lowCause (suc (suc (suc (suc zero)))) l g = (cause.WrongProtocol, refl)
+lowCause (suc (suc (suc (suc (suc zero))))) l g = (cause.BelowLength, refl)
+lowCause (suc (suc (suc (suc (suc (suc zero)))))) l g = (cause.WrongCheck, refl)
+lowCause (suc (suc (suc (suc (suc (suc (suc n))))))) l g = absurd (omega arith)
+
+causeOf : (n : ℕ) → Numbered n → (c : Cause) × (packet.number c ≡ n)
+causeOf n (low l g) = lowCause n l g
+causeOf n longer = (cause.BeyondLength, refl)
 
 -- what reading told and left, as a record that tells and is taken so
 record Held (o : Option Outcome) (s : State) : Type 0 where
@@ -104,10 +109,10 @@ record Held (o : Option Outcome) (s : State) : Type 0 where
   bounded : Bounded reading
   within : answers.Within outcome
 
--- the outcome of a call of the reader, begun in a state with no more than 255 bytes held
-held-outcome : (s : State) (w : List ℕ) → length (held s) ≤ limit → (o : Option Outcome) → read s w .outcome ≡ o → Held o (read s w .after)
+-- the outcome of a call of the reader, begun in a state that bytes leave
+held-outcome : (s : State) (w : List ℕ) → Reachable s → (o : Option Outcome) → read s w .outcome ≡ o → Held o (read s w .after)
 held-outcome s w x none e =
-    let y = read-held s w x in
+    let y = read-reachable s w x in
     record { outcome = given.Nothing; reading = recordOf (read s w .after); told = refl; state = taken-record (read s w .after) y; bounded = record-bounded (read s w .after) y; within = tt }
 held-outcome s w x (some (frame c d)) e =
     let n = read-data s w e in
@@ -122,12 +127,11 @@ held-outcome s w x (some (frame c d)) e =
     }
 held-outcome s w x (some (refused n)) e =
     let (t, y) = read-told s w (refused n) e in
-    let (l, g) = closed-number t n y in
-    let (c, z) = causeOf n l g in
+    let (c, z) = causeOf (n .number) (closed-number t n y) in
     record {
-      outcome = given.Refused c;
+      outcome = given.Refused (record { cause = c; at = n .at });
       reading = emptiedReading;
-      told = ap (λ (k : ℕ). some (refused k)) z;
+      told = ap (λ (k : ℕ). some (refused (record { number = k; at = n .at }))) z;
       state = sym (read-resets s w (refused n) e);
       bounded = (refl, omega arith, tt);
       within = tt;
@@ -176,7 +180,7 @@ feed-any h t r l bytes space = go (feedRefusal h t (taken r) l bytes (length spa
     go none p =
         let x = read s bytes in
         let y = serveIf hub h t l (x .outcome) in
-        let v = held-outcome s bytes (taken-held r) (x .outcome) refl in
+        let v = held-outcome s bytes (taken-reachable r) (x .outcome) refl in
         let e : settled hub x y ≡ call hub h t s l bytes (length space) = sym (call-read hub h t s l bytes (length space) p) in (
           feed.Told (x .used) (v .outcome) (length (y .reply)),
           y .hub,

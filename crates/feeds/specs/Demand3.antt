@@ -1,7 +1,7 @@
 -- Demand 3: it holds of any hub that answers a refused packet with the error reply only, and of any feed that keeps its promise.
 -- Words in quotes are the papers'. A list of feeds F : Feeds H is one that was run: each feed by its promise, and each "gets the hub, the one table
 -- .. and its line's own record as the last one left them". F is "every list of feeds on all lines, refused ones included, whatever the other lines send".
-use Prim.Native.Nat.{ℕ, _≤_, _<_}
+use Prim.Native.Nat.{ℕ, _<_}
 use mathlib.Core.Path.{_≡_, sym, ap, ap₂, _∙_}
 use mathlib.Core.Bool.{Bool}
 use mathlib.Core.List.{List, [], _∷_, _++_, map}
@@ -9,7 +9,7 @@ use native.Mathlib.Omega.{arith}
 use lib.ListN.{length, getD, length-map, List·getD-map}
 use Rattle.line.specs.declared.Reading.{Reading}
 use Rattle.frame.specs.Line.{closed, pieceOutcomes, written}
-use Rattle.frame.specs.Frame.{Refusal, Outcome, refused}
+use Rattle.frame.specs.Frame.{Refusal, Numbered, Outcome, refused}
 use Rattle.frame.specs.Reader.{END, escape, outcomes, State, taken, emptied, emptiedReading, judged, step}
 use Rattle.frame.specs.ReaderLaws.{by-pieces-taken}
 use Rattle.frame.specs.Damage.{Damage}
@@ -66,11 +66,10 @@ module _ {H : System} where
     pub same-results : (G : Feeds H) → Without (itsFeeds d) F G → resultsIn G ≡ unmarked (itsFeeds d) (resultsIn F)
     -- "and the end state is the same": "hub, table and four records"
     pub same-end : (G : Feeds H) → Without (itsFeeds d) F G → worldOf (G .end) ≡ worldOf (F .end)
-    -- The outcomes told on the line are the frames before, one refusal of a packet, and the frames after.
-    pub number : Refusal
-    pub least : 1 ≤ number
-    pub greatest : number ≤ 6
-    pub told : toldIn l F ≡ map frameOf (d .before) ++ refused number ∷ map frameOf (d .after)
+    -- The outcomes told on the line are the frames before, one packet refusal, with a number from 1 to 6 or 15, and the frames after.
+    pub refusal : Refusal
+    pub numbered : Numbered (refusal .number)
+    pub told : toldIn l F ≡ map frameOf (d .before) ++ refused refusal ∷ map frameOf (d .after)
 
   -- The second half's case: "from any hub state and records",
   pub record AnyThenFrames (l : ℕ) (F : Feeds H) : Type 0 where
@@ -130,10 +129,9 @@ module _ {H : System} where
             ∙ ap₂ (endState H) (y .start) (y .entries ∙ ap (λ (m : List Bool). unmarked m es) M)
             ∙ i .same-end
             ∙ sym (run-end F);
-        number = x .number;
-        least = x .least;
-        greatest = x .greatest;
-        told = ap (toldOn l es) A ∙ x .told ∙ ap (λ (z : List Outcome). map frameOf (d .before) ++ refused (x .number) ∷ z) (outcomes-then (d .after) (d .ends));
+        refusal = x .refusal;
+        numbered = x .numbered;
+        told = ap (toldOn l es) A ∙ x .told ∙ ap (λ (z : List Outcome). map frameOf (d .before) ++ refused (x .refusal) ∷ z) (outcomes-then (d .after) (d .ends));
       }
 
   -- The second half.

@@ -51,22 +51,26 @@ entries =
     ∷ entry 0 512 (0 ∷ 3 ∷ 0 ∷ 1 ∷ 2 ∷ END ∷ [])
     ∷ []
 
+-- A short packet of n bytes, none of them escaped.
+abbrev pub shortAt : ℕ → Outcome
+shortAt n = packet.refused (record { number = 3; at = packet.placesAt n n })
+
 -- What each gives.
 unfoldable given : List Result
 given =
     record { answer = told 7 (some (frame 1 [])) 1; reply = 7 ∷ [] }
     ∷ record { answer = told 3 none 0; reply = [] }
-    ∷ record { answer = told 2 (some (packet.refused 3)) 8; reply = errorReply }
+    ∷ record { answer = told 2 (some (shortAt 2)) 8; reply = errorReply }
     ∷ record { answer = refused 9; reply = [] }
     ∷ record { answer = refused 8; reply = [] }
     ∷ record { answer = told 0 none 0; reply = [] }
     ∷ record { answer = told 6 (some (frame 1 [])) 1; reply = 8 ∷ [] }
-    ∷ record { answer = told 3 (some (packet.refused 3)) 8; reply = errorReply }
+    ∷ record { answer = told 3 (some (shortAt 4)) 8; reply = errorReply }
     ∷ record { answer = told 6 (some (frame 1 [])) 1; reply = 9 ∷ [] }
     ∷ []
 
 example-results : results Counting start entries ≡ given
-unfolding serve refusal start entry entries given results feed returned call decided settled serveIf stateFor scan onward step verdict inner line.step line.decoded line.close line.wrongEscape line.tooLong judge packet.tooLong packet.tooShort packet.wrongProtocol packet.wrongLength packet.wrongCheck xorAll _⊕_
+unfolding serve refusal start entry entries given results feed returned call decided settled serveIf stateFor scan onward step verdict inner line.step line.decoded line.close line.wrongEscape line.tooLong judge packet.tooLong packet.tooShort packet.wrongProtocol packet.belowLength packet.beyondLength packet.wireLength packet.behind packet.byteAt packet.onWire escape packet.wrongCheck xorAll _⊕_
 example-results = refl
 
 -- The bytes used on line 0.
@@ -75,7 +79,7 @@ unfolding entry entries given usedOn countOf
 example-used = refl
 
 -- The outcomes told on it.
-example-told : toldOn 0 entries (answers given) ≡ frame 1 [] ∷ packet.refused 3 ∷ frame 1 [] ∷ []
+example-told : toldOn 0 entries (answers given) ≡ frame 1 [] ∷ shortAt 4 ∷ frame 1 [] ∷ []
 unfolding entry entries given toldOn outcomeOf
 example-told = refl
 
@@ -93,11 +97,11 @@ unfolding given its marked nonempty
 example-reply = refl
 
 example-others : results Counting start (unmarked its entries) ≡ unmarked its given
-unfolding its unmarked serve refusal start entry entries given results feed returned call decided settled serveIf stateFor scan onward step verdict inner line.step line.decoded line.close line.wrongEscape line.tooLong judge packet.tooLong packet.tooShort packet.wrongProtocol packet.wrongLength packet.wrongCheck xorAll _⊕_
+unfolding its unmarked serve refusal start entry entries given results feed returned call decided settled serveIf stateFor scan onward step verdict inner line.step line.decoded line.close line.wrongEscape line.tooLong judge packet.tooLong packet.tooShort packet.wrongProtocol packet.belowLength packet.beyondLength packet.wireLength packet.behind packet.byteAt packet.onWire escape packet.wrongCheck xorAll _⊕_
 example-others = refl
 
 example-end : endState Counting start (unmarked its entries) ≡ endState Counting start entries
-unfolding its unmarked endState serve refusal start entry entries given results feed returned call decided settled serveIf stateFor scan onward step verdict inner line.step line.decoded line.close line.wrongEscape line.tooLong judge packet.tooLong packet.tooShort packet.wrongProtocol packet.wrongLength packet.wrongCheck xorAll _⊕_
+unfolding its unmarked endState serve refusal start entry entries given results feed returned call decided settled serveIf stateFor scan onward step verdict inner line.step line.decoded line.close line.wrongEscape line.tooLong judge packet.tooLong packet.tooShort packet.wrongProtocol packet.belowLength packet.beyondLength packet.wireLength packet.behind packet.byteAt packet.onWire escape packet.wrongCheck xorAll _⊕_
 example-end = refl
 
 -- The frame that line 0 sends, with n ENDs before it.

@@ -7,8 +7,8 @@ use mathlib.Core.Option.{Option, none, some, Option·none-ne-some}
 use lib.ListN.{length, drop, replicate, length-replicate}
 use Rattle.line.specs.declared.Reading.{Reading}
 use Rattle.frame.specs.Frame.{Outcome}
-use Rattle.frame.specs.Line.{taken-held, recordOf, taken-record}
-use Rattle.frame.specs.ReaderLaws.{read-held}
+use Rattle.frame.specs.Line.{taken-reachable, recordOf, taken-record}
+use Rattle.frame.specs.ReaderLaws.{read-reachable}
 use Rattle.frame.specs.Reader.{State, emptied, emptiedReading, taken, read}
 use Rattle.feeds.specs.System.{Entry, System, World, Called, settled, call}
 use Rattle.feeds.specs.Service.{Lent, Got, Memory, entryOf, worldOf, Promise, recordFor, leftBy, Run, stop, next, Feeds, entriesIn, usedIn}
@@ -53,7 +53,7 @@ module _ {H : System} where
             record {
               hub = refl;
               table = refl;
-              state = taken-record s (read-held (taken r) bytes (taken-held r)) ∙ ap (λ (y : Called H). y .state) (sym e);
+              state = taken-record s (read-reachable (taken r) bytes (taken-reachable r)) ∙ ap (λ (y : Called H). y .state) (sym e);
               answer = refl;
               room = refl;
               kept = λ k q. absurd (Option·none-ne-some k (sym p ∙ answer-refused H h t (taken r) l bytes (length room) k q));

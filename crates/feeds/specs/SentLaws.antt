@@ -1,9 +1,9 @@
 -- Laws of frames on a line: what they, and ENDs around them, give.
-use Prim.Native.Nat.{ℕ, zero, suc, _≤_}
+use Prim.Native.Nat.{ℕ, zero, suc}
 use mathlib.Core.Path.{_≡_, refl, sym, ap, _∙_}
 use mathlib.Core.List.{List, [], _∷_, _++_, map, append-assoc, append-nil}
 use lib.ListN.{replicate}
-use Rattle.frame.specs.Frame.{Refusal, refused, body, framed, wire}
+use Rattle.frame.specs.Frame.{Refusal, Numbered, refused, body, framed, wire}
 use Rattle.frame.specs.Xor.{_⊕_, xorAll}
 use Rattle.frame.specs.Reader.{END, escape, outcomes, final, State, emptied, step}
 use Rattle.frame.specs.ReaderLaws.{outcomes-append, final-append, final-closed, outcomes-end}
@@ -49,15 +49,14 @@ outcomes-then fs n =
     let ends : outcomes step emptied (replicate n END) ≡ [] = ap (outcomes step emptied) (sym (append-nil (replicate n END))) ∙ outcomes-ends n [] in
     outcomes-sent fs (replicate n END) ∙ ap (λ y. map frameOf fs ++ y) ends ∙ append-nil (map frameOf fs)
 
--- Frames, one that is damaged, and any bytes: the outcomes are the frames, a refusal with a number from 1 to 6, and those of the bytes.
+-- Frames, one that is damaged, and any bytes: the outcomes are the frames, a packet refusal, and those of the bytes.
 pub outcomes-damaged : (before : List Sent) (f : Sent) {damaged : List ℕ} → Damage (escape (f .bytes)) damaged
-    → (n : Refusal) × (1 ≤ n) × (n ≤ 6)
+    → (n : Refusal) × Numbered (n .number)
     × ((rest : List ℕ) → outcomes step emptied (sent before ++ (enclosed (f .ends) damaged ++ rest)) ≡ map frameOf before ++ refused n ∷ outcomes step emptied rest)
 outcomes-damaged before f {damaged} x =
-    let (n, p, q, r) = damaged-refused (f .bytes) (f .accepted) x in (
+    let (n, p, r) = damaged-refused (f .bytes) (f .accepted) x in (
       n,
       p,
-      q,
       λ rest.
           outcomes-sent before (enclosed (f .ends) damaged ++ rest) ∙ ap (λ y. map frameOf before ++ y) (outcomes-enclosed (f .ends) damaged rest ∙ r rest),
     )

@@ -18,7 +18,7 @@ use Rattle.feeds.specs.Marks.{countOf, outcomeOf, counted, usedOn, marks
 use Rattle.feeds.specs.Sent.{sent}
 use Rattle.feeds.specs.Service.{Lent, Got, Memory, entryOf, Run, stop, next, Feeds, marksIn}
 use Rattle.feeds.specs.Demand3.{Line, OneDamaged, Harmless, harmless}
-use Rattle.feeds.specs.Example.{serve, refusal, Counting, one, example-damage}
+use Rattle.feeds.specs.Example.{serve, refusal, Counting, shortAt, one, example-damage}
 
 -- A record that claims more than 255 bytes: it is taken as one between packets.
 unfoldable junk : Reading
@@ -66,7 +66,7 @@ gots =
     ∷ got 7 two (refused 9) [] 511
     ∷ got 7 junk (refused 8) [] 512
     ∷ got 7 two (told 0 none 0) [] 512
-    ∷ got 7 used (told 3 (some (packet.refused 3)) 8) errorReply 504
+    ∷ got 7 used (told 3 (some (shortAt 4)) 8) errorReply 504
     ∷ got 8 used (told 6 (some (frame 1 [])) 1) (7 ∷ []) 511
     ∷ []
 
@@ -76,7 +76,7 @@ left = record { hub = 8; table = tt; records = used ∷ two ∷ emptiedReading �
 
 -- Each keeps its promise.
 example-run : Run Counting begin lents gots left
-unfolding junk two used begin lent got lents gots left entryOf serve refusal call decided settled serveIf scan onward step verdict inner line.step line.decoded line.close line.wrongEscape line.tooLong judge packet.tooLong packet.tooShort packet.wrongProtocol packet.wrongLength packet.wrongCheck xorAll _⊕_
+unfolding junk two used begin lent got lents gots left entryOf serve refusal call decided settled serveIf scan onward step verdict inner line.step line.decoded line.close line.wrongEscape line.tooLong judge packet.tooLong packet.tooShort packet.wrongProtocol packet.belowLength packet.beyondLength packet.wireLength packet.behind packet.byteAt packet.onWire escape packet.wrongCheck xorAll _⊕_
 example-run =
     next (record { hub = refl; table = refl; state = refl; answer = refl; room = refl; kept = told-kept })
     (next (record { hub = refl; table = refl; state = refl; answer = refl; room = refl; kept = λ n p. refl })

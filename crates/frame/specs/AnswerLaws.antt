@@ -2,7 +2,7 @@
 use Prim.Native.Nat.{ℕ, _+_, _-_}
 use mathlib.Core.Path.{_≡_, refl, sym, ap, ap₂, _∙_, subst}
 use mathlib.Core.List.{List}
-use mathlib.Core.Option.{Option, some}
+use mathlib.Core.Option.{some}
 use native.Mathlib.Omega.{arith}
 use lib.ListN.{length, take, drop, length-take, length-drop}
 use denote.Ref.{RefT}
@@ -10,28 +10,32 @@ use borrow.Author.Tests.{ne-eqb}
 use Rattle.line.specs.declared.Fault.{Fault}
 use Rattle.line.specs.declared.Fault.the-variants.{WrongEscape, TooLong}
 use Rattle.line.specs.declared.Reading.{Reading}
+use Rattle.line.specs.declared.FaultAt.{FaultAt}
 use Rattle.line.specs.Reader as line
 use Rattle.frame.specs.declared.FrameAnswer.{FrameAnswer}
 use Rattle.frame.specs.declared.FrameAt.{FrameAt}
 use Rattle.frame.specs.declared.FrameOutcome.the-variants as given
 use Rattle.frame.specs.declared.FrameTold.{FrameTold}
 use Rattle.frame.specs.declared.view.View.{View}
-use Rattle.frame.specs.Frame.{Outcome, frame, refused, refusal, head, around, judge}
-use Rattle.frame.specs.JudgeLaws.{judge-accepted, judge-frame, refused-number, framed-accepted}
+use Rattle.frame.specs.Frame.{number, refusal, Outcome, frame, refused, head, around, judge}
+use Rattle.frame.specs.JudgeLaws.{judge-accepted, judge-frame, refused-number, numbered-some, framed-accepted}
 use Rattle.frame.specs.Reader.{State, Scan, takenAs, taken, read}
 use Rattle.frame.specs.Answers.{told, seen, Answers, answerOf, Within, Whole}
-use Rattle.frame.specs.Judgements.{causeOf}
+use Rattle.frame.specs.Judgements.{causeOf, refusalOf}
 use Rattle.frame.specs.Lent.{frameTold, ReadsFrame}
 use Rattle.frame.specs.View.{shownData, shownStart, Part, Shows, outcomeIn}
 
--- a fault and its cause have one number
-pub cause-number : (f : Fault) → refusal (causeOf f) ≡ line.refusal f
+-- a fault of the line reader is told as the line reader tells it
+cause-number : (f : Fault) → number (causeOf f) ≡ line.number f
 cause-number WrongEscape = refl
 cause-number TooLong = refl
 
+pub fault-refusal : (f : FaultAt) → refusal (refusalOf f) ≡ line.refusal f
+fault-refusal f = ap (λ (n : ℕ). record { number = n; at = f .at }) (cause-number (f .fault))
+
 -- bytes that lie apart from an answer tell its frame and its state
 pub apart-seen : (bs : List ℕ) (t : FrameAt)
-    → seen (answerOf bs t) ≡ record { used = t .used; outcome = told (t .outcome) bs; after = takenAs bs (t .place .count) (t .place .mode) }
+    → seen (answerOf bs t) ≡ record { used = t .used; outcome = told (t .outcome) bs; after = takenAs bs (t .cursor .count) (t .cursor .mode) }
 apart-seen bs t = refl
 
 -- a call by value whose record is put back is a call on the lent record
@@ -61,8 +65,7 @@ shown-outcome x v s = go (judge (x .now)) refl s
     go : (o : Outcome) → judge (x .now) ≡ o → Shows o x v → outcomeIn v ≡ o
     go (frame c d) e s = rw (s .refusal) (ap₂ frame (s .command) (s .told))
     go (refused n) e s =
-        let z : (n ≡ 0) → ⊥ = λ q. omega (arith, refused-number (x .now) n e) in
-        rw (s .refusal, ne-eqb n 0 z) refl
+        rw (s .refusal, s .at, ne-eqb (n .number) 0 (numbered-some (n .number) (refused-number (x .now) n e))) refl
 
 -- a frame's packet in the array is accepted, as that frame
 pub whole-judged : (c n : ℕ) (bs : List ℕ) → Within (given.Frame c n) → Whole (given.Frame c n) bs → judge (take (n + around) bs) ≡ frame c (take n (drop head bs))

@@ -68,4 +68,4 @@ pub record Answers (x : Scan State Outcome) (r : FrameAnswer) : Type 0 where
 
 -- the answer with the bytes that it lies apart from
 abbrev pub answerOf : List ℕ → FrameAt → FrameAnswer
-answerOf bs t = record { used = t .used; outcome = t .outcome; reading = record { bytes = bs; count = t .place .count; mode = t .place .mode } }
+answerOf bs t = record { used = t .used; outcome = t .outcome; reading = record { bytes = bs; count = t .cursor .count; mode = t .cursor .mode } }

@@ -1,13 +1,13 @@
 -- One damaged byte (demand 3): a frame with one damaged byte between its ENDs is refused, and one without is read.
 -- Either way the bytes behind the END give what they give from between packets.
-use Prim.Native.Nat.{ℕ, _≤_}
+use Prim.Native.Nat.{ℕ}
 use mathlib.Core.Path.{_≡_, refl, ap, _∙_}
 use mathlib.Core.List.{List, [], _∷_, _++_}
 use mathlib.Core.Option.{Option, some}
 use native.Mathlib.Omega.{arith}
 use Rattle.line.specs.Reader as line
 use Rattle.line.specs.Pieces.{NoEnd}
-use Rattle.frame.specs.Frame.{Refusal, Outcome, frame, refused, judge}
+use Rattle.frame.specs.Frame.{Refusal, Numbered, Outcome, frame, refused, judge}
 use Rattle.frame.specs.JudgeLaws.{Accepted, judge-accepted}
 use Rattle.frame.specs.Reader.{END, escape, also, outcomes, State, plain, escaped, skipping, emptied, inside, verdict, step}
 use Rattle.frame.specs.ReaderLaws.{outcomes-closed, closed-number, accepted-closes}
@@ -37,14 +37,13 @@ damaged-closes a (plain (b ∷ h)) x = let y = change-refused (x (b ∷ h) refl)
 damaged-closes a (escaped h) x = (line.refusal (line.wrongEscape h), refl)
 damaged-closes a (skipping f) x = (line.refusal f, refl)
 
--- a frame with one damaged byte gives one outcome, a refusal with a number from 1 to 6
+-- a frame with one damaged byte gives one outcome, a packet refusal
 pub damaged-refused : (f : List ℕ) {w : List ℕ} {c : ℕ} {d : List ℕ} → judge f ≡ frame c d → Damage (escape f) w
-    → (n : Refusal) × (1 ≤ n) × (n ≤ 6) × ((rest : List ℕ) → outcomes step emptied (w ++ END ∷ rest) ≡ refused n ∷ outcomes step emptied rest)
+    → (n : Refusal) × Numbered (n .number) × ((rest : List ℕ) → outcomes step emptied (w ++ END ∷ rest) ≡ refused n ∷ outcomes step emptied rest)
 damaged-refused f {w} e d =
     let x = damaged-no-end f d in
     let (n, r) = damaged-closes (judge-accepted {h = f} e) (inside emptied w) (λ h q. damage-change (escape-sent f) (decoded-sent w h x q) d) in
-    let k = closed-number (inside emptied w) n r in
-    (n, k .0, k .1, λ rest. outcomes-closed emptied w rest x ∙ ap (λ (o : Option Outcome). also o (outcomes step emptied rest)) r)
+    (n, closed-number (inside emptied w) n r, λ rest. outcomes-closed emptied w rest x ∙ ap (λ (o : Option Outcome). also o (outcomes step emptied rest)) r)
 
 -- an undamaged one gives one outcome, the frame
 pub whole-read : (f : List ℕ) {c : ℕ} {d : List ℕ} → judge f ≡ frame c d

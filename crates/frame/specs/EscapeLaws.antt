@@ -1,18 +1,18 @@
 -- Only what is sent for given bytes is read as them: wire bytes without an END that come to whole bytes are their escaped form.
 use Prim.Native.Nat.{ℕ}
 use mathlib.Core.Path.{_≡_, refl, sym, ap, ap₂, _∙_}
-use mathlib.Core.List.{List, [], _∷_, _++_, append-nil}
-use mathlib.Core.Bool.{Bool, true, false, cond}
+use mathlib.Core.List.{List, [], _∷_}
+use mathlib.Core.Bool.{Bool, true, false}
 use native.Mathlib.Omega.{arith}
-use lib.ListN.{length}
-use lib.Seq.{append-snoc}
-use lib.Dec.{ltb, eqb}
-use borrow.Author.Tests.{eqb-true, eqb-false, ne-eqb}
+use lib.Dec.{eqb}
+use borrow.Author.Tests.{eqb-true, eqb-false}
 use Rattle.line.specs.Wire.{END, ESC, ESC-END, ESC-ESC, escape}
-use Rattle.line.specs.Reader.{limit, State, plain, escaped, skipping, emptied, decoded, inner, inside, tooLong, wrongEscape}
+use Rattle.line.specs.Reader.{plain, emptied, inside}
 use Rattle.line.specs.ReaderLaws.{escape-usual}
-use Rattle.line.specs.Pieces.{NoEnd, Bytes, written}
-use Rattle.line.specs.PieceLaws.{written-no-end}
+use Rattle.line.specs.Pieces.{NoEnd, Bytes}
+use Rattle.line.specs.Reachable.{written}
+use Rattle.line.specs.ReachableLaws.{written-no-end}
+use Rattle.line.specs.StandingLaws.{plain-escaped}
 
 -- a byte that is sent escaped, and what follows the ESC
 pub data Pair : ℕ → ℕ → Type 0 where
@@ -84,51 +84,6 @@ sent-bytes (pair esc s) x = (omega arith, sent-bytes s (x .1 .1))
 
 -- ---- decoding
 
--- p stands before bytes for which w is sent, and all is h
-abbrev Extends : List ℕ → List ℕ → List ℕ → Type 0
-Extends p w h = (r : List ℕ) × (h ≡ p ++ r) × Sent r w
-
--- how a state and the bytes behind it come to h whole bytes
-abbrev Reads : State → List ℕ → List ℕ → Type 0
-Reads (plain p) w h = Extends p w h
-Reads (escaped p) w h = Extends p (ESC ∷ w) h
-Reads (skipping f) w h = ⊥
-
--- b is decoded first, where its wire bytes and then w are v
-module _ (p : List ℕ) (b : ℕ) (w v h : List ℕ) (front : (r : List ℕ) → Sent r w → Sent (b ∷ r) v) where
-  reads-decoded : Reads (decoded p b) w h → Extends p v h
-  unfolding decoded
-  reads-decoded = go (ltb (length p) limit)
-    where
-      go : (t : Bool) → Reads (cond t (plain (p ++ b ∷ [])) (skipping (tooLong p))) w h → Extends p v h
-      go true (r, e, s) = (b ∷ r, e ∙ append-snoc p b r, front r s)
-      go false x = absurd x
-
--- one wire byte more
-reads-next : (s : State) (b : ℕ) (w h : List ℕ) → (b ≡ END → ⊥) → Reads (inner s b) w h → Reads s (b ∷ w) h
-unfolding inner
-reads-next (plain p) b w h n = go (eqb b ESC) refl
-  where
-    go : (t : Bool) → eqb b ESC ≡ t → Reads (cond t (escaped p) (decoded p b)) w h → Extends p (b ∷ w) h
-    go true y x = rw (eqb-true b ESC y) x
-    go false y x = reads-decoded p b w (b ∷ w) h (λ r s. usual (ne-eqb b END n) y s) x
-reads-next (escaped p) b w h n = go (eqb b ESC-END) (eqb b ESC-ESC) refl refl
-  where
-    go : (t u : Bool) → eqb b ESC-END ≡ t → eqb b ESC-ESC ≡ u
-        → Reads (cond t (decoded p END) (cond u (decoded p ESC) (skipping (wrongEscape p)))) w h → Extends p (ESC ∷ b ∷ w) h
-    go true u y z x = rw (eqb-true b ESC-END y) (reads-decoded p END w (ESC ∷ ESC-END ∷ w) h (λ r s. pair end s) x)
-    go false true y z x = rw (eqb-true b ESC-ESC z) (reads-decoded p ESC w (ESC ∷ ESC-ESC ∷ w) h (λ r s. pair esc s) x)
-    go false false y z x = absurd x
-reads-next (skipping f) b w h n = λ x. x
-
--- whole bytes come only of what is sent for them
-reads : (s : State) (w h : List ℕ) → NoEnd w → inside s w ≡ plain h → Reads s w h
-unfolding inside
-reads (plain p) [] h n e = let z : h ≡ p = cc in ([], z ∙ sym (append-nil p), nothing)
-reads (escaped p) [] h n e = let z : _≡_ {A = ℕ} 0 1 = cc in absurd (omega arith)
-reads (skipping f) [] h n e = let z : _≡_ {A = ℕ} 0 1 = cc in absurd (omega arith)
-reads s (b ∷ w) h n e = reads-next s b w h (n .0) (reads (inner s b) w h (n .1) e)
-
 -- bytes without an END that are read as whole bytes were sent for them
 pub decoded-sent : (w h : List ℕ) → NoEnd w → inside emptied w ≡ plain h → Sent h w
-decoded-sent w h n e = let (r, q, s) = reads emptied w h n e in rw q s
+decoded-sent w h n e = rw (plain-escaped w h n e) (escape-sent h)

@@ -1,11 +1,12 @@
--- The frame layer's rules on bytes: document 01's packets judged and shown, and frames written at the edges of room and data.
+-- The frame layer's rules on bytes: document 01's packets accepted and shown, and frames written at the edges of room and data. Refusals are
+-- PlaceVectors.antt's.
 use Prim.Native.Nat.{ℕ, _+_}
 use mathlib.Core.Path.{_≡_, refl}
 use mathlib.Core.List.{List, [], _∷_, _++_, map}
 use lib.ListN.{length, replicate}
 use Rattle.frame.specs.Xor.{_⊕_, xorAll}
-use Rattle.frame.specs.Frame.{escape, frame, refused, headOf, body, framed, wire, commandOf, tooLong, tooShort, wrongProtocol, wrongLength, wrongCheck, judge}
-use Rattle.frame.specs.View.{shownCommand, shownData, shownRefusal, shownStart}
+use Rattle.frame.specs.Frame.{placesAt, wireLength, onWire, byteAt, escape, frame, headOf, body, framed, wire, commandOf, wrongCheck, judge}
+use Rattle.frame.specs.View.{shownCommand, shownData, shownRefusal, shownAt, shownStart}
 use Rattle.frame.specs.Writer as writer
 use Rattle.frame.specs.Writer.{write, writeAt, measured}
 
@@ -27,24 +28,6 @@ accepted :
     ≡ frame 0x0001 [] ∷ frame 0x0206 (0xC0 ∷ 0x00 ∷ []) ∷ frame 0x0206 (0xC1 ∷ 0x00 ∷ []) ∷ frame 0x0206 (0xDB ∷ 0x00 ∷ []) ∷ []
 unfolding p4 judge xorAll _⊕_
 accepted = refl
-
--- P8 to P11, refused; where two checks fail, the first one tells
-refusals :
-    map judge
-    ((0x00 ∷ 0x03 ∷ 0x00 ∷ 0x03 ∷ [])
-    ∷ (0x01 ∷ 0x03 ∷ 0x00 ∷ 0x01 ∷ 0x03 ∷ [])
-    ∷ (0x00 ∷ 0x04 ∷ 0x00 ∷ 0x01 ∷ 0x05 ∷ [])
-    ∷ p11
-    ∷ (0x01 ∷ 0x04 ∷ 0x00 ∷ 0x01 ∷ 0x05 ∷ [])
-    ∷ [])
-    ≡ refused 3 ∷ refused 4 ∷ refused 5 ∷ refused 6 ∷ refused 4 ∷ []
-unfolding p11 judge xorAll _⊕_ tooShort wrongProtocol wrongLength wrongCheck
-refusals = refl
-
--- 256 bytes are refusal 2; 255 go on to the other checks
-too-long : map judge (replicate 256 0 ∷ replicate 255 0 ∷ []) ≡ refused 2 ∷ refused 5 ∷ []
-unfolding judge tooLong wrongLength
-too-long = refl
 
 -- the command's two bytes, high byte first, in a packet and in a head
 commands : map commandOf ((0x00 ∷ 0x03 ∷ 0x12 ∷ 0x34 ∷ 0x25 ∷ []) ∷ (0x00 ∷ 0x03 ∷ 0xFF ∷ 0x00 ∷ 0xFC ∷ []) ∷ []) ≡ 0x1234 ∷ 0xFF00 ∷ []
@@ -70,6 +53,10 @@ shown-data = refl
 shown-refusal : map (λ (h : List ℕ). shownRefusal (judge h)) (p4 ∷ p11 ∷ framed 0x0000 [] ∷ []) ≡ 0 ∷ 6 ∷ 0 ∷ []
 unfolding p4 p11 judge framed body xorAll _⊕_ wrongCheck
 shown-refusal = refl
+
+shown-at : map (λ (h : List ℕ). shownAt (judge h)) (p4 ∷ p11 ∷ []) ≡ placesAt 0 0 ∷ placesAt 4 4 ∷ []
+unfolding p4 p11 judge xorAll _⊕_ wrongCheck byteAt onWire wireLength escape
+shown-at = refl
 
 -- the wire forms of P3 to P6
 p3-sent : List ℕ

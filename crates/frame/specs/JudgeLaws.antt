@@ -14,14 +14,14 @@ use Rattle.line.specs.Reader.{limit}
 use Rattle.line.specs.Pieces.{Bytes}
 use Rattle.frame.specs.Xor.{xorAll}
 use Rattle.frame.specs.XorLaws.{⊕-self, ⊕-cancel, xorAll-snoc}
-use Rattle.frame.specs.Frame.{Refusal, Outcome, frame, refused, maxData, around, body, framed, tooLong, tooShort, wrongProtocol, wrongLength, wrongCheck, commandOf, dataOf, pass, judge}
+use Rattle.frame.specs.Frame.{Refusal, number, Numbered, low, longer, Outcome, frame, refused, maxData, around, body, framed, tooLong, tooShort, wrongProtocol, claimed, belowLength, beyondLength, wrongCheck, commandOf, dataOf, pass, judge}
 
 -- what the checks ask of a packet
 pub record Accepted (h : List ℕ) : Type 0 where
   pub at-most : length h ≤ limit
   pub at-least : around ≤ length h
   pub protocol : getD h 0 0 ≡ 0
-  pub count : getD h 1 0 + 2 ≡ length h
+  pub count : claimed h ≡ length h
   pub check : xorAll h ≡ 0
 
 -- ---- what is accepted
@@ -55,14 +55,15 @@ passes {h} e =
     let a = passed (leb (length h) limit) (tooLong h) e in
     let b = passed (leb around (length h)) (tooShort h) (a .1) in
     let p = passed (eqb (getD h 0 0) 0) (wrongProtocol h) (b .1) in
-    let q = passed (eqb (getD h 1 0 + 2) (length h)) (wrongLength h) (p .1) in
-    let r = passed (eqb (getD h m 0) (xorAll (take m h))) (wrongCheck h) (q .1) in
+    let q = passed (leb (claimed h) (length h)) (belowLength h) (p .1) in
+    let l = passed (leb (length h) (claimed h)) (beyondLength h) (q .1) in
+    let r = passed (eqb (getD h m 0) (xorAll (take m h))) (wrongCheck h) (l .1) in
     let n : around ≤ length h = leb-true around (length h) (b .0) in (
       record {
         at-most = leb-true (length h) limit (a .0);
         at-least = n;
         protocol = eqb-true (getD h 0 0) 0 (p .0);
-        count = eqb-true (getD h 1 0 + 2) (length h) (q .0);
+        count = omega (arith, leb-true (claimed h) (length h) (q .0), leb-true (length h) (claimed h) (l .0));
         check = ap xorAll (snoc h m (omega arith)) ∙ check-zero (take m h) (getD h m 0) (eqb-true (getD h m 0) (xorAll (take m h)) (r .0));
       },
       r .1,
@@ -85,9 +86,10 @@ accepted-judge h a =
     let s = le-leb (length h) limit (a .at-most) in
     let t = le-leb around (length h) (a .at-least) in
     let p = eq-eqb (getD h 0 0) 0 (a .protocol) in
-    let q = eq-eqb (getD h 1 0 + 2) (length h) (a .count) in
+    let q = le-leb (claimed h) (length h) (omega (arith, a .count)) in
+    let l = le-leb (length h) (claimed h) (omega (arith, a .count)) in
     let r = eq-eqb (getD h m 0) (xorAll (take m h)) e in
-    rw (s, t, p, q, r)
+    rw (s, t, p, q, l, r)
 
 -- a frame that is read has no more than 250 bytes of data
 pub accepted-data : (h : List ℕ) {c : ℕ} {d : List ℕ} → judge h ≡ frame c d → length d ≤ maxData
@@ -95,29 +97,34 @@ accepted-data h e = rw (judge-frame h e .1) (simp (length-take, length-drop) (om
 
 -- ---- what is refused
 
--- a refusal has a number from 2 to 6
-abbrev Numbered : Outcome → Type 0
-Numbered (frame c d) = Unit {0}
-Numbered (refused n) = (2 ≤ n) × (n ≤ 6)
+-- a refusal has a packet refusal's number
+abbrev NumberedOutcome : Outcome → Type 0
+NumberedOutcome (frame c d) = Unit {0}
+NumberedOutcome (refused n) = Numbered (n .number)
 
 -- so it is behind a check
-pass-numbered : (t : Bool) (n : Refusal) (o : Outcome) → (2 ≤ n) × (n ≤ 6) → Numbered o → Numbered (pass t n o)
+pass-numbered : (t : Bool) (n : Refusal) (o : Outcome) → Numbered (n .number) → NumberedOutcome o → NumberedOutcome (pass t n o)
 pass-numbered true n o p q = q
 pass-numbered false n o p q = p
 
 -- each check's refusal has its number
-judge-numbered : (h : List ℕ) → Numbered (judge h)
-unfolding judge tooLong tooShort wrongProtocol wrongLength wrongCheck
+judge-numbered : (h : List ℕ) → NumberedOutcome (judge h)
+unfolding judge tooLong tooShort wrongProtocol belowLength beyondLength wrongCheck
 judge-numbered h =
-    pass-numbered (leb (length h) limit) _ _ (omega arith)
-    (pass-numbered (leb around (length h)) _ _ (omega arith)
-    (pass-numbered (eqb (getD h 0 0) 0) _ _ (omega arith)
-    (pass-numbered (eqb (getD h 1 0 + 2) (length h)) _ _ (omega arith)
-    (pass-numbered (eqb (getD h (length h - 1) 0) (xorAll (take (length h - 1) h))) _ _ (omega arith) tt))))
+    pass-numbered (leb (length h) limit) _ _ (low (omega arith) (omega arith))
+    (pass-numbered (leb around (length h)) _ _ (low (omega arith) (omega arith))
+    (pass-numbered (eqb (getD h 0 0) 0) _ _ (low (omega arith) (omega arith))
+    (pass-numbered (leb (claimed h) (length h)) _ _ (low (omega arith) (omega arith))
+    (pass-numbered (leb (length h) (claimed h)) _ _ longer
+    (pass-numbered (eqb (getD h (length h - 1) 0) (xorAll (take (length h - 1) h))) _ _ (low (omega arith) (omega arith)) tt)))))
 
--- a refusal of the checks has a number from 2 to 6
-pub refused-number : (h : List ℕ) (n : Refusal) → judge h ≡ refused n → (2 ≤ n) × (n ≤ 6)
+pub refused-number : (h : List ℕ) (n : Refusal) → judge h ≡ refused n → Numbered (n .number)
 refused-number h n e = rw e at (judge-numbered h)
+
+-- which is not 0
+pub numbered-some : (n : ℕ) → Numbered n → n ≡ 0 → ⊥
+numbered-some n (low x y) e = omega arith
+numbered-some n longer e = omega arith
 
 -- ---- what a sender makes
 

@@ -2,8 +2,6 @@ pub mod Xor
 pub mod Frame
 pub mod Reader
 pub mod Places
-pub mod Placed
-pub mod PlacedReader
 pub mod Line
 pub mod Answers
 pub mod Writer
@@ -23,5 +21,5 @@ pub mod RoundTrip
 pub mod ChangeLaws
 pub mod DamageLaws
 pub mod PlaceLaws
-pub mod PlacedReaderLaws
 pub mod AnswerLaws
+pub mod EscapedForm

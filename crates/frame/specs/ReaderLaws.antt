@@ -14,12 +14,13 @@ use Rattle.line.specs.declared.Fault.the-variants.{WrongEscape, TooLong}
 use Rattle.line.specs.declared.Reading.{Reading}
 use Rattle.line.specs.Reader as line
 use Rattle.line.specs.ReaderLaws as line-laws
-use Rattle.line.specs.Pieces.{closed, last, decode, pieceOutcomes, written, NoEnd}
+use Rattle.line.specs.Pieces.{closed, last, decode, pieceOutcomes, NoEnd}
 use Rattle.line.specs.ByPieces as line-pieces
-use Rattle.line.specs.HeldLaws as line-held
-use Rattle.frame.specs.Frame.{Refusal, Outcome, frame, refused, maxData, around, judge}
+use Rattle.line.specs.Reachable.{Reachable, written}
+use Rattle.line.specs.ReachableLaws as line-reachable
+use Rattle.frame.specs.Frame.{Refusal, Numbered, low, Outcome, frame, refused, maxData, around, judge}
 use Rattle.frame.specs.JudgeLaws.{judge-accepted, refused-number, accepted-data}
-use Rattle.frame.specs.Reader.{END, escape, also, onward, outcomes, final, scan, State, plain, escaped, skipping, emptied, held, inner, inside, taken, Scan, judged, verdict, step, read}
+use Rattle.frame.specs.Reader.{END, escape, also, onward, outcomes, final, scan, State, plain, escaped, skipping, emptied, inner, inside, taken, Scan, judged, verdict, step, read}
 pub use Rattle.line.specs.ScanLaws.{also-append, outcomes-append, final-append, Tells, scan-tells, used-within, used-some, used-all}
 
 -- ---- by the line reader's outcomes
@@ -164,21 +165,21 @@ closed-frame (plain (b ∷ h)) e = (b ∷ h, refl, (cc))
 closed-frame (escaped h) e = let z : _≡_ {A = ℕ} 0 1 = cc in absurd (omega arith)
 closed-frame (skipping f) e = let z : _≡_ {A = ℕ} 0 1 = cc in absurd (omega arith)
 
--- a fault of the line reader has a number among them
-fault-number : (f : Fault) → (1 ≤ line.refusal f) × (line.refusal f ≤ 6)
-fault-number WrongEscape = omega arith
-fault-number TooLong = omega arith
+-- a fault of the line reader has a packet refusal's number
+fault-number : (f : Fault) → Numbered (line.number f)
+fault-number WrongEscape = low {n = 1} (omega arith) (omega arith)
+fault-number TooLong = low {n = 2} (omega arith) (omega arith)
 
--- a refusal at an END has a number from 1 to 6
-pub closed-number : (s : State) (n : Refusal) → verdict (line.close s) ≡ some (refused n) → (1 ≤ n) × (n ≤ 6)
+-- a refusal at an END has one
+pub closed-number : (s : State) (n : Refusal) → verdict (line.close s) ≡ some (refused n) → Numbered (n .number)
 unfolding verdict line.close
 closed-number (plain []) n e = absurd (Option·none-ne-some (refused n) e)
-closed-number (plain (b ∷ h)) n e = let x = refused-number (b ∷ h) n (cc) in omega arith
-closed-number (escaped h) n e = let x : line.refusal (line.wrongEscape h) ≡ n = cc in rw x at (fault-number (line.wrongEscape h))
-closed-number (skipping f) n e = let x : line.refusal f ≡ n = cc in rw x at (fault-number f)
+closed-number (plain (b ∷ h)) n e = refused-number (b ∷ h) n (cc)
+closed-number (escaped h) n e = let x : line.refusal (line.wrongEscape h) ≡ n = cc in rw (ap (λ (z : Refusal). z .number) x) at (fault-number (line.wrongEscape h .fault))
+closed-number (skipping f) n e = let x : line.refusal f ≡ n = cc in rw (ap (λ (z : Refusal). z .number) x) at (fault-number (f .fault))
 
--- every refusal that a byte gives has a number from 1 to 6
-pub outcome-number : (s : State) (b : ℕ) (n : Refusal) → step s b .1 ≡ some (refused n) → (1 ≤ n) × (n ≤ 6)
+-- and so every refusal that a byte gives
+pub outcome-number : (s : State) (b : ℕ) (n : Refusal) → step s b .1 ≡ some (refused n) → Numbered (n .number)
 outcome-number s b n e = closed-number s n (step-closes s b (refused n) e)
 
 -- the outcome of a call is that of some piece
@@ -199,6 +200,6 @@ read-data s w {c} {d} e =
     let (h, p, q) = closed-frame t r in
     accepted-data h q
 
--- a call leaves no more than 255 bytes held
-pub read-held : (s : State) (w : List ℕ) → length (held s) ≤ line.limit → length (held (read s w .after)) ≤ line.limit
-read-held s w x = rw (read-judged s w) (line-held.read-held s w x)
+-- a call leaves a state that bytes leave
+pub read-reachable : (s : State) (w : List ℕ) → Reachable s → Reachable (read s w .after)
+read-reachable s w x = rw (read-judged s w) (line-reachable.read-reachable s w x)

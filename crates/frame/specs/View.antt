@@ -7,9 +7,10 @@ use lib.ListN.{length, take, drop}
 use lib.Dec.{eqb}
 use denote.Ref.{RefT}
 use Rattle.frame.specs.declared.view.View.{View}
-use Rattle.frame.specs.Frame.{Outcome, frame, refused, head}
+use Rattle.line.specs.declared.Places.{Places}
+use Rattle.frame.specs.Frame.{placesAt, Outcome, frame, refused, head}
 
--- a frame's command number, data and 0; of a refused packet 0, none and the number of its refusal
+-- a frame's command number, data, 0 and no place; of a refused packet 0, none, the number of its refusal and where it broke
 abbrev pub shownCommand : Outcome → ℕ
 shownCommand (frame c d) = c
 shownCommand (refused n) = 0
@@ -20,7 +21,11 @@ shownData (refused n) = []
 
 abbrev pub shownRefusal : Outcome → ℕ
 shownRefusal (frame c d) = 0
-shownRefusal (refused n) = n
+shownRefusal (refused n) = n .number
+
+abbrev pub shownAt : Outcome → Places
+shownAt (frame c d) = placesAt 0 0
+shownAt (refused n) = n .at
 
 -- where the data begin: behind a frame's head; of a refused packet, at its start
 abbrev pub shownStart : Outcome → ℕ
@@ -38,8 +43,9 @@ pub record Shows (o : Outcome) (x : RefT (List ℕ)) (v : View) : Type 0 where
   pub command : v .command ≡ shownCommand o
   pub told : v .«data» .now ≡ shownData o
   pub refusal : v .refusal ≡ shownRefusal o
+  pub at : v .at ≡ shownAt o
   pub part : Part x (shownStart o) (length (shownData o)) (v .«data»)
 
 -- the outcome that a view tells: the refusal that it shows, or, if that is 0, the frame
 abbrev pub outcomeIn : View → Outcome
-outcomeIn v = cond (eqb (v .refusal) 0) (frame (v .command) (v .«data» .now)) (refused (v .refusal))
+outcomeIn v = cond (eqb (v .refusal) 0) (frame (v .command) (v .«data» .now)) (refused (record { number = v .refusal; at = v .at }))

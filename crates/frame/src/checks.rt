@@ -1,16 +1,19 @@
-// The checks on a packet in document 01's order, the numbers of their refusals, and the exclusive or of bytes.
+// The checks on a packet in document 01's order, each refusal with its places, the numbers of the refusals, and the exclusive or of bytes.
 // Each answer is the definition's: specs/Frame.antt, specs/Answers.antt.
 ghost use Prim.Native.Nat.{_+_, _≤_};
 ghost use mathlib.Core.Path.{_≡_};
 ghost use lib.ListN.{length, getD};
-ghost use lib.Dec.{eqb};
-ghost use Rattle.frame.specs.Frame.{around, refusal, judge};
+ghost use Rattle.frame.specs.Frame.{around, claimed, number, judge};
 ghost use Rattle.frame.specs.Xor.{xorAll};
 ghost use Rattle.frame.specs.Answers.{Judges};
+ghost use Rattle.frame.specs.Judgements.{refusedAt, InPacket};
 use crate::AROUND;
+use crate::Cause;
 use crate::HEAD;
 use crate::Judged;
 use crate::PacketRefusal;
+use line::DecodedPlace;
+use line::WirePlace;
 
 // The checks on a packet, in their order.
 pub fn judge(packet: &[u8]) -> Judged
@@ -18,22 +21,25 @@ pub fn judge(packet: &[u8]) -> Judged
 {
     let n = packet.len();
     if line::LIMIT < n {
-        return Judged::Refused(PacketRefusal::TooLong);
+        return refused(Cause::TooLong, packet, line::LIMIT);
     }
     if n < AROUND {
-        return Judged::Refused(PacketRefusal::TooShort);
+        return refused(Cause::TooShort, packet, n);
     }
     let protocol = packet[0];
-    let fits = has_length(packet);
+    let due = claimed_len(packet);
     if protocol != 0 {
-        return Judged::Refused(PacketRefusal::WrongProtocol);
+        return refused(Cause::WrongProtocol, packet, 0);
     }
-    if !fits {
-        return Judged::Refused(PacketRefusal::WrongLength);
+    if n < due {
+        return refused(Cause::BelowLength, packet, n);
+    }
+    if due < n {
+        return refused(Cause::BeyondLength, packet, due);
     }
     let last = n - 1;
     if packet[last] != xor_all(&packet[0..last]) {
-        return Judged::Refused(PacketRefusal::WrongCheck);
+        return refused(Cause::WrongCheck, packet, last);
     }
     let high = packet[2] as u16;
     let low = packet[3] as u16;
@@ -45,25 +51,38 @@ pub fn judge(packet: &[u8]) -> Judged
     }
 }
 
-// Whether the length byte is right: L + 2 is the decoded length.
-fn has_length(packet: &[u8]) -> bool
+// The length that the length byte claims for the whole frame: L + 2.
+fn claimed_len(packet: &[u8]) -> usize
     requires { ⌜ around ≤ length (now packet) ⌝ }
-    ensures { λ r. ⌜ r ≡ eqb (getD (now (packet .entry)) 1 0 + 2) (length (now (packet .entry))) ⌝ }
+    ensures { λ r. ⌜ r ≡ claimed (now (packet .entry)) ⌝ }
 {
-    (packet[1] as usize) + 2 == packet.len()
+    (packet[1] as usize) + 2
 }
 
-// Document 01's number of a packet's refusal.
-pub fn number(cause: PacketRefusal) -> u8
-    ensures { λ r. ⌜ r ≡ refusal cause ⌝ }
+// A refusal at a byte of the packet, or at the END behind it.
+fn refused(cause: Cause, packet: &[u8], place: usize) -> Judged
+    requires { ⌜ InPacket (now packet) place ⌝ }
+    ensures { λ r. ⌜ r ≡ refusedAt cause (now (packet .entry)) place ⌝ }
+{
+    let behind = place + line::escapes(&packet[0..place]);
+    let wire = behind as u16;
+    let decoded = place as u16;
+    let at = line::places_at(WirePlace(wire), DecodedPlace(decoded));
+    Judged::Refused(PacketRefusal { cause, at })
+}
+
+// Document 01's number of a refusal's cause.
+pub fn number(cause: Cause) -> u8
+    ensures { λ r. ⌜ r ≡ number cause ⌝ }
 {
     match cause {
-        PacketRefusal::WrongEscape => 1,
-        PacketRefusal::TooLong => 2,
-        PacketRefusal::TooShort => 3,
-        PacketRefusal::WrongProtocol => 4,
-        PacketRefusal::WrongLength => 5,
-        PacketRefusal::WrongCheck => 6,
+        Cause::WrongEscape => 1,
+        Cause::TooLong => 2,
+        Cause::TooShort => 3,
+        Cause::WrongProtocol => 4,
+        Cause::BelowLength => 5,
+        Cause::BeyondLength => 15,
+        Cause::WrongCheck => 6,
     }
 }
 

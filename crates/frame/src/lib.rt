@@ -11,16 +11,18 @@ mod writer;
 pub use checks::judge;
 pub use checks::number;
 pub use lent::read_frame;
+use line::Cursor;
 pub use line::END;
 pub use line::ESC;
 pub use line::LIMIT;
-use line::Place;
+use line::Places;
 use line::Reading;
-pub use line::taken_place;
+pub use line::taken_cursor;
 pub use reader::emptied;
 pub use reader::read;
 pub use reader::read_in;
 pub use view::View;
+pub use view::broken_at;
 pub use view::command;
 pub use view::data;
 pub use view::refusal;
@@ -39,14 +41,21 @@ pub const HEAD: usize = 4;
 
 pub const AROUND: usize = 5;
 
-// Why a packet is refused, in the order of document 01's numbers 1 to 6.
-pub enum PacketRefusal {
+// Why a packet is refused, in the order in which it is judged: a frame below its length byte's claim is shorter than it, one beyond it longer.
+pub enum Cause {
     WrongEscape,
     TooLong,
     TooShort,
     WrongProtocol,
-    WrongLength,
+    BelowLength,
+    BeyondLength,
     WrongCheck,
+}
+
+// A packet refusal: why, and where.
+pub struct PacketRefusal {
+    pub cause: Cause,
+    pub at: Places,
 }
 
 // A packet that was judged: its data are `len` bytes from `start` on.
@@ -77,7 +86,7 @@ pub struct FrameAnswer {
 pub struct FrameAt {
     pub used: usize,
     pub outcome: FrameOutcome,
-    pub place: Place,
+    pub cursor: Cursor,
 }
 
 // An answer apart from its reading, which lies where it was lent.

@@ -6,14 +6,16 @@ ghost use Rattle.line.specs.Reader.{limit};
 ghost use Rattle.line.specs.Answers.{Within};
 ghost use Rattle.frame.specs.Reader.{read, taken, takenAs, emptiedReading};
 ghost use Rattle.frame.specs.Answers.{answerOf, Answers};
-ghost use Rattle.frame.specs.Judgements.{Judging, outcomeOf, causeOf};
+ghost use Rattle.frame.specs.Judgements.{Judging, outcomeOf, causeOf, refusalOf};
+use crate::Cause;
 use crate::FrameAnswer;
 use crate::FrameAt;
 use crate::FrameOutcome;
 use crate::Judged;
 use crate::PacketRefusal;
+use line::Cursor;
 use line::Fault;
-use line::Place;
+use line::FaultAt;
 use line::Reading;
 
 // A reading between packets.
@@ -30,23 +32,23 @@ pub fn read(reading: Reading, wire: &[u8]) -> FrameAnswer
     let mut bytes = reading.bytes;
     let count = reading.count;
     let mode = reading.mode;
-    let told = read_in(&mut bytes, Place { count, mode }, wire);
+    let told = read_in(&mut bytes, Cursor { count, mode }, wire);
     answer_of(bytes, told)
 }
 
 // The same on a reading whose bytes stay where they lie: nothing is copied.
-pub fn read_in(bytes: &mut [u8; line::LIMIT], place: Place, wire: &[u8]) -> FrameAt
-    ensures { λ r. ⌜ Answers (read (takenAs (now (bytes .entry)) (place .count) (place .mode)) (now (wire .entry))) (answerOf (now (bytes .exit)) r) ⌝ }
+pub fn read_in(bytes: &mut [u8; line::LIMIT], cursor: Cursor, wire: &[u8]) -> FrameAt
+    ensures { λ r. ⌜ Answers (read (takenAs (now (bytes .entry)) (cursor .count) (cursor .mode)) (now (wire .entry))) (answerOf (now (bytes .exit)) r) ⌝ }
 {
-    let told = line::read_in(bytes, place, wire);
+    let told = line::read_in(bytes, cursor, wire);
     let used = told.used;
     let got = told.outcome;
-    let after = told.place;
+    let after = told.cursor;
     let outcome = judge_in(bytes, got);
     FrameAt {
         used: used,
         outcome: outcome,
-        place: after,
+        cursor: after,
     }
 }
 
@@ -56,9 +58,9 @@ fn answer_of(bytes: [u8; line::LIMIT], told: FrameAt) -> FrameAnswer
 {
     let used = told.used;
     let outcome = told.outcome;
-    let place = told.place;
-    let count = place.count;
-    let mode = place.mode;
+    let cursor = told.cursor;
+    let count = cursor.count;
+    let mode = cursor.mode;
     FrameAnswer {
         used: used,
         outcome: outcome,
@@ -74,7 +76,7 @@ fn judge_in(bytes: &[u8], got: line::PacketOutcome) -> FrameOutcome
     match got {
         line::PacketOutcome::Nothing => FrameOutcome::Nothing,
         line::PacketOutcome::Packet(n) => outcome_of(crate::checks::judge(&bytes[0..n])),
-        line::PacketOutcome::Refused(fault) => FrameOutcome::Refused(cause_of(fault)),
+        line::PacketOutcome::Refused(fault) => FrameOutcome::Refused(refusal_of(fault)),
     }
 }
 
@@ -91,11 +93,21 @@ fn outcome_of(judged: Judged) -> FrameOutcome
     }
 }
 
-fn cause_of(fault: Fault) -> PacketRefusal
+// A fault of the line reader, as a packet refusal.
+fn refusal_of(fault: FaultAt) -> PacketRefusal
+    ensures { λ r. ⌜ r ≡ refusalOf fault ⌝ }
+{
+    let kind = fault.fault;
+    let at = fault.at;
+    let cause = cause_of(kind);
+    PacketRefusal { cause, at }
+}
+
+fn cause_of(fault: Fault) -> Cause
     ensures { λ r. ⌜ r ≡ causeOf fault ⌝ }
 {
     match fault {
-        Fault::WrongEscape => PacketRefusal::WrongEscape,
-        Fault::TooLong => PacketRefusal::TooLong,
+        Fault::WrongEscape => Cause::WrongEscape,
+        Fault::TooLong => Cause::TooLong,
     }
 }

@@ -5,15 +5,19 @@ ghost use mathlib.Core.Path.{_≡_};
 ghost use Rattle.frame.specs.Frame.{judge};
 ghost use Rattle.frame.specs.Answers.{JudgedWithin};
 ghost use Rattle.frame.specs.View.{Shows};
-ghost use Rattle.frame.specs.Judgements.{commandIn, partIn, refusalIn};
+ghost use Rattle.frame.specs.Judgements.{commandIn, partIn, refusalIn, placesIn};
 use crate::Judged;
+use line::DecodedPlace;
+use line::Places;
+use line::WirePlace;
 
-// A frame's command number and its data, where they lie, and 0; of a refused packet, 0, the empty part at its start, and document
-// 01's number of its refusal.
+// A frame's command number and its data, where they lie, 0 and the places 0 and 0; of a refused packet, 0, the empty part at its start,
+// document 01's number of its refusal, and where it broke. The wire place is that in the bytes' one escaped form.
 pub struct View<'a> {
     pub command: u16,
     pub data: &'a [u8],
     pub refusal: u8,
+    pub at: Places,
 }
 
 // The view of a packet.
@@ -25,6 +29,7 @@ pub fn show<'a>(bytes: &'a [u8]) -> View<'a>
         command: command_of(judged),
         data: part_of(bytes, judged),
         refusal: refusal_of(judged),
+        at: places_of(judged),
     }
 }
 
@@ -47,6 +52,13 @@ pub fn refusal<'a>(view: View<'a>) -> u8
     ensures { λ r. ⌜ r ≡ view .entry .refusal ⌝ }
 {
     view.refusal
+}
+
+// Where the packet broke that a view shows, 0 and 0 if it was accepted.
+pub fn broken_at<'a>(view: View<'a>) -> Places
+    ensures { λ r. ⌜ r ≡ view .entry .at ⌝ }
+{
+    view.at
 }
 
 fn command_of(judged: Judged) -> u16
@@ -85,6 +97,22 @@ fn refusal_of(judged: Judged) -> u8
             start: _,
             len: _,
         } => 0,
-        Judged::Refused(cause) => crate::checks::number(cause),
+        Judged::Refused(refusal) => {
+            let cause = refusal.cause;
+            crate::checks::number(cause)
+        }
+    }
+}
+
+fn places_of(judged: Judged) -> Places
+    ensures { λ r. ⌜ r ≡ placesIn judged ⌝ }
+{
+    match judged {
+        Judged::Frame {
+            command: _,
+            start: _,
+            len: _,
+        } => line::places_at(WirePlace(0), DecodedPlace(0)),
+        Judged::Refused(refusal) => refusal.at,
     }
 }

@@ -71,7 +71,10 @@ fn wire_len(command: u16, payload: &[u8]) -> usize
     requires { ⌜ length (now payload) ≤ maxData ⌝ }
     ensures { λ r. ⌜ r ≡ length (wire command (now (payload .entry))) ⌝ }
 {
-    head_len(command, payload.len()) + escaped_len(payload) + width(check_of(command, payload)) + 2
+    head_len(command, payload.len())
+        + escaped_len(payload)
+        + line::width(check_of(command, payload))
+        + 2
 }
 
 // The wire form from `start` on, where it fits; the answer is the place behind it.
@@ -104,7 +107,10 @@ fn head_len(command: u16, n: usize) -> usize
     requires { ⌜ n ≤ maxData ⌝ }
     ensures { λ r. ⌜ r ≡ length (escape (headOf command n)) ⌝ }
 {
-    1 + width((n + 3) as u8) + width((command / 256) as u8) + width((command % 256) as u8)
+    1
+        + line::width((n + 3) as u8)
+        + line::width((command / 256) as u8)
+        + line::width((command % 256) as u8)
 }
 
 // Protocol byte, length and command of a frame with n data bytes, escaped, from `start` on; the answer is the place behind them.
@@ -123,25 +129,7 @@ fn escaped_len(bytes: &[u8]) -> usize
     requires { ⌜ length (now bytes) ≤ maxData ⌝ }
     ensures { λ r. ⌜ r ≡ length (escape (now (bytes .entry))) ⌝ }
 {
-    let mut n = 0;
-    let mut i = 0;
-    while i < bytes.len() {
-        n += width(bytes[i]);
-        i += 1;
-    }
-    n
-}
-
-fn width(b: u8) -> usize
-    ensures { λ r. ⌜ r ≡ length (escape (b ∷ [])) ⌝ }
-{
-    if b == line::END {
-        return 2;
-    }
-    if b == line::ESC {
-        return 2;
-    }
-    1
+    bytes.len() + line::escapes(bytes)
 }
 
 // Bytes, escaped, from `start` on; the answer is the place behind them.

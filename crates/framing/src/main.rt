@@ -1,5 +1,5 @@
 // Boundary cases of frames, run and held to the file stdout: frames measured, the frame writer at its limits, each frame that it writes read back;
-// packets through their view, those that are accepted from the wire and through a lent record.
+// packets through their view, those that are accepted from the wire and through a lent record; where a refused packet broke.
 ghost use mathlib.Core.Path.{_≡_};
 ghost use Rattle.frame.specs.Reader.{taken, read};
 ghost use Rattle.frame.specs.Answers.{Answers};
@@ -11,6 +11,7 @@ use frame::Measured;
 use frame::Written;
 use frame::WrittenAt;
 use libc::STDOUT_FILENO;
+use line::Places;
 use line::Reading;
 use text::COLON;
 use text::DATA;
@@ -25,6 +26,7 @@ struct Copied {
     data: [u8; frame::DATA],
     len: usize,
     refusal: u8,
+    at: Places,
 }
 
 // A text longer than this is cut off.
@@ -243,10 +245,15 @@ fn show_places() {
 // What the view of a packet shows.
 fn seen(packet: &[u8]) -> Copied {
     let v = frame::show(packet);
-    shown(frame::command(v), frame::data(v), frame::refusal(v))
+    shown(
+        frame::command(v),
+        frame::data(v),
+        frame::refusal(v),
+        frame::broken_at(v),
+    )
 }
 
-fn shown(command: u16, payload: &[u8], refusal: u8) -> Copied {
+fn shown(command: u16, payload: &[u8], refusal: u8, at: Places) -> Copied {
     let mut data = [0u8; frame::DATA];
     memory::copy(&mut data, 0, payload);
     let len = payload.len();
@@ -255,6 +262,7 @@ fn shown(command: u16, payload: &[u8], refusal: u8) -> Copied {
         data,
         len,
         refusal,
+        at,
     }
 }
 
@@ -286,7 +294,10 @@ fn show_view(name: &[u8], packet: &[u8]) {
         &data[0..len],
         &REFUSAL,
     );
-    let end = text::append_numbered(&mut page, refusal, &NOTHING, seen.refusal as u64, &LINE_END);
+    let places = seen.at;
+    let told = text::append_decimal(&mut page, refusal, seen.refusal as u64);
+    let last = text::append_places(&mut page, told, places);
+    let end = text::append(&mut page, last, &LINE_END);
     print(&page, end);
 }
 
@@ -349,12 +360,86 @@ fn show_refused_wires() {
     show_wire(b"P11", b"\xC0\x00\x03\x00\x01\x03\xC0");
 }
 
+// Wire bytes that break, with escapes before, at and behind the place that is told: an escaped byte's is its ESC's.
+fn show_short_wires() {
+    show_wire(b"too short behind an escape", b"\xC0\xDB\xDC\x01\xC0");
+    show_wire(
+        b"too short, its last byte escaped",
+        b"\xC0\x00\x03\xDB\xDD\xC0",
+    );
+    show_wire(
+        b"protocol byte escaped",
+        b"\xC0\xDB\xDC\x03\x00\x01\x02\xC0",
+    );
+    show_wire(
+        b"wrong protocol, escapes behind",
+        b"\xC0\x01\x03\xDB\xDC\xDB\xDD\x02\xC0",
+    );
+}
+
+// The length byte claims one byte too many, one too few, and less than any frame has.
+fn show_length_wires() {
+    show_wire(b"below its length", b"\xC0\x00\x04\xDB\xDC\x01\xDB\xDD\xC0");
+    show_wire(
+        b"beyond its length",
+        b"\xC0\x00\x03\xDB\xDC\x01\x02\x55\xC0",
+    );
+    show_wire(
+        b"beyond, at an escape",
+        b"\xC0\x00\x03\x00\x01\x02\xDB\xDC\xC0",
+    );
+    show_wire(
+        b"beyond, escapes behind",
+        b"\xC0\x00\x03\x00\x01\x02\x55\xDB\xDC\xDB\xDD\xC0",
+    );
+    show_wire(b"length 0", b"\xC0\x00\x00\xDB\xDC\x01\x02\xC0");
+    show_wire(b"length 1", b"\xC0\x00\x01\xDB\xDC\x01\x02\xC0");
+    show_wire(b"length 2", b"\xC0\x00\x02\xDB\xDC\xDB\xDD\x02\xC0");
+}
+
+fn show_check_wires() {
+    show_wire(b"check byte escaped", b"\xC0\x00\x03\x00\x01\xDB\xDC\xC0");
+    show_wire(
+        b"check byte behind an escape",
+        b"\xC0\x00\x03\xDB\xDC\x01\x00\xC0",
+    );
+}
+
 // Refused packets.
 fn show_empty_views() {
     show_view(b"P8", b"\x00\x03\x00\x03");
     show_view(b"P9", b"\x01\x03\x00\x01\x03");
     show_view(b"P10", b"\x00\x04\x00\x01\x05");
     show_view(b"P11", b"\x00\x03\x00\x01\x03");
+    show_view(b"no bytes", b"");
+}
+
+// A view's wire place is that in the packet's one escaped form.
+fn show_broken_views() {
+    show_view(b"below its length", b"\x00\x04\xC0\x01\xDB");
+    show_view(b"beyond its length", b"\x00\x03\xC0\x01\x02\x55");
+    show_view(b"beyond, at an escape", b"\x00\x03\x00\x01\x02\xC0");
+    show_view(b"length 2", b"\x00\x02\xC0\xDB\x02");
+    show_view(b"check byte behind an escape", b"\x00\x03\xC0\x01\x00");
+}
+
+// The greatest places: 256 bytes, and 255 of which the check byte is wrong.
+fn show_long_views() {
+    show_long(b"none escaped", 0);
+    show_long(b"some escaped", 100);
+    show_long(b"the data escaped", 252);
+    let packet = [frame::END; 256];
+    show_view(b"all escaped", &packet);
+}
+
+// n bytes behind the length byte are escaped.
+fn show_long(name: &[u8], n: usize) {
+    let mut packet = [0x55u8; 256];
+    packet[0] = 0;
+    packet[1] = 253;
+    memory::fill(&mut packet, 2, n, frame::END);
+    show_view(name, &packet[0..255]);
+    show_view(name, &packet);
 }
 
 fn main() {
@@ -366,5 +451,10 @@ fn main() {
     show_places();
     show_wires();
     show_refused_wires();
+    show_short_wires();
+    show_length_wires();
+    show_check_wires();
     show_empty_views();
+    show_broken_views();
+    show_long_views();
 }

@@ -4,7 +4,7 @@ ghost use mathlib.Core.Path.{_≡_};
 ghost use Rattle.rules.specs.Promises.{Closes, Feeds};
 ghost use Rattle.requests.specs.Answers.{readingAt};
 ghost use Rattle.hub.specs.Parts.{closedWith, fedWith};
-use line::Place;
+use line::Cursor;
 use line::Reading;
 use rules::Closed;
 use rules::ClosedByValue;
@@ -34,14 +34,14 @@ pub fn feed_in(
     hub: Hub,
     table: &mut [u8],
     held: &mut [u8; line::LIMIT],
-    place: Place,
+    cursor: Cursor,
     line: u8,
     bytes: &[u8],
     room: &mut [u8],
 ) -> FedAt
-    ensures { λ r. ⌜ Feeds hub (now (table .entry)) (readingAt (now (held .entry)) place) line (now (bytes .entry)) (now (room .entry)) (r .answer) (r .hub) (now (table .exit)) (readingAt (now (held .exit)) (r .place)) (now (room .exit)) ⌝ }
+    ensures { λ r. ⌜ Feeds hub (now (table .entry)) (readingAt (now (held .entry)) cursor) line (now (bytes .entry)) (now (room .entry)) (r .answer) (r .hub) (now (table .exit)) (readingAt (now (held .exit)) (r .cursor)) (now (room .exit)) ⌝ }
 {
-    requests::call_in(hub, table, held, place, line, bytes, room)
+    requests::call_in(hub, table, held, cursor, line, bytes, room)
 }
 
 // A line is closed: its login is lost, its reading state emptied, its sessions closed.

@@ -15,6 +15,7 @@ use Rattle.line.specs.declared.PacketAnswer.{PacketAnswer}
 use Rattle.line.specs.declared.PacketAt.{PacketAt}
 use Rattle.line.specs.Scan.{Scan, also}
 use Rattle.line.specs.Reader.{limit, refusal, State, plain, escaped, skipping, emptied, Outcome, packet, refused, read}
+use Rattle.line.specs.Reachable.{Possible, possible}
 
 -- the state of h bytes held in a mode; while a settled piece is skipped, none are
 abbrev pub at : List ℕ → Mode → State
@@ -22,9 +23,15 @@ at h Plain = plain h
 at h Escaped = escaped h
 at h (Skipping f) = skipping f
 
--- a record that claims more than 255 is taken as one between packets, and one that skips as skipping with none
+-- A record that no bytes could leave is taken as emptied, but for document 01's cases. So one that claims more than 255 is emptied; else
+-- one that skips is skipping with none, whatever it claims, unless the places of its fault are impossible.
+abbrev pub heldAs : List ℕ → Mode → State
+heldAs h Plain = plain h
+heldAs h Escaped = escaped h
+heldAs h (Skipping f) = cond (possible f) (skipping f) emptied
+
 abbrev pub takenAs : List ℕ → ℕ → Mode → State
-takenAs bs n m = cond (ltb limit n) emptied (at (take n bs) m)
+takenAs bs n m = cond (ltb limit n) emptied (heldAs (take n bs) m)
 
 abbrev pub taken : Reading → State
 taken r = takenAs (r .bytes) (r .count) (r .mode)
@@ -48,11 +55,11 @@ Within Nothing = Unit {0}
 Within (Packet n) = n ≤ limit
 Within (Refused f) = Unit {0}
 
--- a record that skips claims no bytes
+-- a record that skips claims no bytes, and its fault has places that some bytes leave
 abbrev pub Clear : Mode → ℕ → Type 0
 Clear Plain n = Unit {0}
 Clear Escaped n = Unit {0}
-Clear (Skipping f) n = n ≡ 0
+Clear (Skipping f) n = (n ≡ 0) × Possible f
 
 -- The promise of a call: r tells what the definition x gives, and each count in it lies within the array.
 -- Left to the program: the array's places beyond the bytes held and, where a packet is told, beyond the packet's.
@@ -64,7 +71,7 @@ pub record Answers (x : Scan State Outcome) (r : PacketAnswer) : Type 0 where
 
 -- the answer with the bytes that it lies apart from
 abbrev pub answerOf : List ℕ → PacketAt → PacketAnswer
-answerOf bs t = record { used = t .used; outcome = t .outcome; reading = record { bytes = bs; count = t .place .count; mode = t .place .mode } }
+answerOf bs t = record { used = t .used; outcome = t .outcome; reading = record { bytes = bs; count = t .cursor .count; mode = t .cursor .mode } }
 
 -- Calls one after another: each is lent a record that is taken as the one before left it, and some bytes. Told of them
 -- are the bytes used in all, the outcomes and the last record.

@@ -1,76 +1,89 @@
--- Reading byte by byte is cutting at every END and decoding each piece.
-use Prim.Native.Nat.{ℕ, zero, suc, _≤_, _<_}
+-- Reading byte by byte is cutting at every END and decoding each piece, places included.
+use Prim.Native.Nat.{ℕ, _+_, _<_}
 use mathlib.Core.Path.{_≡_, refl, sym, ap, _∙_}
 use mathlib.Core.List.{List, [], _∷_, _++_, append-nil, append-assoc}
 use mathlib.Core.Bool.{Bool, true, false, cond}
 use mathlib.Core.Option.{Option, none, some}
-use native.Mathlib.Omega.{arith}
-use lib.ListN.{length, take, replicate, length-take}
+use lib.ListN.{length, take, getD}
 use lib.Seq.{append-snoc}
 use lib.Dec.{ltb, eqb}
-use borrow.Author.Tests.{eqb-true, eqb-false, ltb-false, ne-eqb}
+use borrow.Author.Tests.{eqb-true, eqb-false, ne-eqb}
 use Rattle.line.specs.declared.Fault.the-variants.{WrongEscape, TooLong}
-use Rattle.line.specs.declared.Mode.{Mode}
-use Rattle.line.specs.declared.Mode.the-variants.{Plain, Escaped, Skipping}
-use Rattle.line.specs.declared.Reading.{Reading}
 use Rattle.line.specs.Wire.{END, ESC, ESC-END, ESC-ESC, escape}
 use Rattle.line.specs.Scan.{also, outcomes, final}
-use Rattle.line.specs.Reader.{limit, wrongEscape, tooLong, State, plain, escaped, skipping, emptied, held, Outcome, decoded, inner, inside, close, step}
-use Rattle.line.specs.ReaderLaws.{cond-holds, inside-append, inside-skipping, inside-escaped}
-use Rattle.line.specs.Answers.{at, taken}
-use Rattle.line.specs.EveryLaws.{every-append, every-replicate}
-use Rattle.line.specs.Pieces.{closed, last, Symbol, byte, wrong, half, symbols, settle, decode, outcome, pieceOutcomes, joined, Every, NoEnd, Bytes, written}
+use Rattle.line.specs.Places.{WirePlace, wireAt, decodedAt, wireLength, onWire, behind, behindEsc}
+use Rattle.line.specs.PlaceLaws.{wireLength-append, wireLength-one, onWire-before, onWire-byte}
+use Rattle.line.specs.Reader.{limit, refusal, wrongEscape, tooLong, State, plain, escaped, skipping, emptied, Outcome, refused, decoded, inner, inside, close, step}
+use Rattle.line.specs.ReaderLaws.{cond-holds, inside-append, inside-skipping}
+use Rattle.line.specs.EveryLaws.{every-append}
+use Rattle.line.specs.Pieces.{closed, last, Symbol, one, two, wrong, half, symbols, faultAt, settle, decode, outcome, pieceOutcomes, joined, Every, NoEnd}
+use Rattle.line.specs.Standing.{standing}
+use Rattle.line.specs.StandingLaws.{standing-wire, plain-escaped}
 
 -- ---- a piece
 
-module _ (w : List ℕ) (r : List Symbol) (ih : (h : List ℕ) → settle h r ≡ inside (plain h) w) where
-  settle-byte : (h : List ℕ) (b : ℕ) → settle h (byte b ∷ r) ≡ inside (decoded h b) w
-  unfolding settle decoded
-  settle-byte h b = go (ltb (length h) limit)
+-- behind the bytes h the next symbol stands at their wire length
+abbrev settled : List ℕ → List Symbol → State
+settled h r = settle (wireAt (wireLength h)) h r
+
+module _ (w : List ℕ) (r : List Symbol) (ih : (h : List ℕ) → settled h r ≡ inside (plain h) w) where
+  -- a decoded byte that takes n wire bytes
+  settle-byte : (h : List ℕ) (b n : ℕ) → wireLength (b ∷ []) ≡ n
+      → cond (ltb (length h) limit) (settle (wireAt (wireLength h + n)) (h ++ b ∷ []) r) (skipping (faultAt TooLong (wireAt (wireLength h)) h)) ≡ inside (decoded h b) w
+  unfolding decoded tooLong behind
+  settle-byte h b n x = go (ltb (length h) limit)
     where
-      go : (t : Bool) → cond t (settle (h ++ b ∷ []) r) (skipping (tooLong h)) ≡ inside (cond t (plain (h ++ b ∷ [])) (skipping (tooLong h))) w
-      go true = ih (h ++ b ∷ [])
+      go : (t : Bool)
+          → cond t (settle (wireAt (wireLength h + n)) (h ++ b ∷ []) r) (skipping (faultAt TooLong (wireAt (wireLength h)) h))
+          ≡ inside (cond t (plain (h ++ b ∷ [])) (skipping (tooLong h))) w
+      go true =
+          ap (λ (k : ℕ). settle (wireAt k) (h ++ b ∷ []) r) (ap (λ (k : ℕ). wireLength h + k) (sym x) ∙ sym (wireLength-append h (b ∷ [])))
+          ∙ ih (h ++ b ∷ [])
       go false = sym (inside-skipping (tooLong h) w)
 
--- an ESC and what follows it
-settle-escape : (h : List ℕ) (c : ℕ) (w : List ℕ) → ((h : List ℕ) → settle h (symbols w) ≡ inside (plain h) w)
-    → settle h (cond (eqb c ESC-END) (byte END ∷ symbols w) (cond (eqb c ESC-ESC) (byte ESC ∷ symbols w) (wrong ∷ []))) ≡ inside (escaped h) (c ∷ w)
-unfolding settle inside inner
-settle-escape h c w ih = go (eqb c ESC-END) (eqb c ESC-ESC)
-  where
-    go : (t u : Bool)
-        → settle h (cond t (byte END ∷ symbols w) (cond u (byte ESC ∷ symbols w) (wrong ∷ [])))
-        ≡ inside (cond t (decoded h END) (cond u (decoded h ESC) (skipping (wrongEscape h)))) w
-    go true u = settle-byte w (symbols w) ih h END
-    go false true = settle-byte w (symbols w) ih h ESC
-    go false false = sym (inside-skipping (wrongEscape h) w)
+  -- one that goes as it is
+  settle-one : (h : List ℕ) (b : ℕ) → eqb b END ≡ false → eqb b ESC ≡ false → settled h (one b ∷ r) ≡ inside (decoded h b) w
+  unfolding settle
+  settle-one h b x y = settle-byte h b 1 (wireLength-one b ∙ rw (x, y))
+
+  -- an ESC and what follows it
+  settle-escape : (h : List ℕ) (c : ℕ) → settled h (cond (eqb c ESC-END) (two END ∷ r) (cond (eqb c ESC-ESC) (two ESC ∷ r) (wrong ∷ []))) ≡ inside (escaped h) (c ∷ w)
+  unfolding settle inside inner wrongEscape behindEsc
+  settle-escape h c = go (eqb c ESC-END) (eqb c ESC-ESC)
+    where
+      go : (t u : Bool)
+          → settled h (cond t (two END ∷ r) (cond u (two ESC ∷ r) (wrong ∷ [])))
+          ≡ inside (cond t (decoded h END) (cond u (decoded h ESC) (skipping (wrongEscape h)))) w
+      go true u = settle-byte h END 2 (wireLength-one END)
+      go false true = settle-byte h ESC 2 (wireLength-one ESC)
+      go false false = sym (inside-skipping (wrongEscape h) w)
 
 -- the first fault settles a piece: decoding it is reading it byte by byte
-pub settle-symbols : (h p : List ℕ) → settle h (symbols p) ≡ inside (plain h) p
-unfolding symbols settle inside inner decoded
-settle-symbols h [] = refl
-settle-symbols h (b ∷ []) = go (eqb b ESC)
+settle-symbols : (h p : List ℕ) → NoEnd p → settled h (symbols p) ≡ inside (plain h) p
+unfolding symbols settle inside inner
+settle-symbols h [] n = refl
+settle-symbols h (b ∷ []) n = go (eqb b ESC) refl
   where
-    go : (t : Bool) → settle h (cond t half (byte b) ∷ []) ≡ cond t (escaped h) (decoded h b)
-    go true = refl
-    go false = refl
-settle-symbols h (b ∷ c ∷ w) = two h b c w (λ k. settle-symbols k w) (λ k. settle-symbols k (c ∷ w))
+    go : (t : Bool) → eqb b ESC ≡ t → settled h (cond t half (one b) ∷ []) ≡ cond t (escaped h) (decoded h b)
+    go true x = refl
+    go false x = settle-one [] [] (λ k. refl) h b (ne-eqb b END (n .0)) x
+settle-symbols h (b ∷ c ∷ w) n = pair h b c w n (λ k. settle-symbols k w (n .1 .1)) (λ k. settle-symbols k (c ∷ w) (n .1))
   where
-    two : (h : List ℕ) (b c : ℕ) (w : List ℕ)
-        → ((k : List ℕ) → settle k (symbols w) ≡ inside (plain k) w)
-        → ((k : List ℕ) → settle k (symbols (c ∷ w)) ≡ inside (plain k) (c ∷ w))
-        → settle h (symbols (b ∷ c ∷ w)) ≡ inside (plain h) (b ∷ c ∷ w)
-    two h b c w x y = go (eqb b ESC)
+    pair : (h : List ℕ) (b c : ℕ) (w : List ℕ) → NoEnd (b ∷ c ∷ w)
+        → ((k : List ℕ) → settled k (symbols w) ≡ inside (plain k) w)
+        → ((k : List ℕ) → settled k (symbols (c ∷ w)) ≡ inside (plain k) (c ∷ w))
+        → settled h (symbols (b ∷ c ∷ w)) ≡ inside (plain h) (b ∷ c ∷ w)
+    pair h b c w n x y = go (eqb b ESC) refl
       where
-        go : (t : Bool)
-            → settle h (cond t (cond (eqb c ESC-END) (byte END ∷ symbols w) (cond (eqb c ESC-ESC) (byte ESC ∷ symbols w) (wrong ∷ []))) (byte b ∷ symbols (c ∷ w)))
+        go : (t : Bool) → eqb b ESC ≡ t
+            → settled h (cond t (cond (eqb c ESC-END) (two END ∷ symbols w) (cond (eqb c ESC-ESC) (two ESC ∷ symbols w) (wrong ∷ []))) (one b ∷ symbols (c ∷ w)))
             ≡ inside (cond t (escaped h) (decoded h b)) (c ∷ w)
-        go true = settle-escape h c w x
-        go false = settle-byte (c ∷ w) (symbols (c ∷ w)) y h b
+        go true z = settle-escape w (symbols w) x h c
+        go false z = settle-one (c ∷ w) (symbols (c ∷ w)) y h b (ne-eqb b END (n .0)) z
 
-pub decode-inside : (p : List ℕ) → decode p ≡ inside emptied p
-unfolding decode
-decode-inside p = settle-symbols [] p
+pub decode-inside : (p : List ℕ) → NoEnd p → decode p ≡ inside emptied p
+unfolding decode wireLength escape
+decode-inside p n = settle-symbols [] p n
 
 -- ---- its END
 
@@ -101,132 +114,92 @@ unfolding inside
 inside-started s [] x = x
 inside-started s (b ∷ p) x = inside-started (inner s b) p (inner-started s b)
 
-close-started : (s : State) → Started s → close s ≡ some (outcome s)
-unfolding close outcome
-close-started (plain []) x = absurd x
-close-started (plain (b ∷ h)) x = refl
-close-started (escaped h) x = refl
-close-started (skipping f) x = refl
+close-started : (p : List ℕ) (s : State) → Started s → ((h : List ℕ) → s ≡ escaped h → length p ≡ wireLength h + 1) → close s ≡ some (outcome p s)
+unfolding close outcome wrongEscape behindEsc
+close-started p (plain []) x n = absurd x
+close-started p (plain (b ∷ h)) x n = refl
+close-started p (escaped h) x n = ap (λ (k : ℕ). some (refused (refusal (faultAt WrongEscape (wireAt k) h)))) (sym (n h refl))
+close-started p (skipping f) x n = refl
+
+-- behind an ESC as many wire bytes stand as the bytes held take, and that ESC
+escaped-wire : (p h : List ℕ) → NoEnd p → inside emptied p ≡ escaped h → length p ≡ wireLength h + 1
+unfolding behindEsc
+escaped-wire p h n e = ap (λ (w : WirePlace). w .0) (sym (standing-wire p (behindEsc h) n (ap standing e)))
 
 -- a closed piece that is not empty gives the outcome of its bytes
-close-piece : (b : ℕ) (p : List ℕ) → close (inside emptied (b ∷ p)) ≡ some (outcome (decode (b ∷ p)))
+close-piece : (b : ℕ) (p : List ℕ) → NoEnd (b ∷ p) → close (inside emptied (b ∷ p)) ≡ some (outcome (b ∷ p) (decode (b ∷ p)))
 unfolding inside
-close-piece b p =
-    close-started (inside (inner emptied b) p) (inside-started (inner emptied b) p (inner-started emptied b))
-    ∙ ap (λ (s : State). some (outcome s)) (sym (decode-inside (b ∷ p)))
+close-piece b p n =
+    close-started (b ∷ p) (inside (inner emptied b) p) (inside-started (inner emptied b) p (inner-started emptied b)) (λ h e. escaped-wire (b ∷ p) h n e)
+    ∙ ap (λ (s : State). some (outcome (b ∷ p) s)) (sym (decode-inside (b ∷ p) n))
 
 -- ---- the whole wire
 
-also-piece : (p : List ℕ) (l : List Outcome) (ps : List (List ℕ)) → l ≡ pieceOutcomes ps → also (close (inside emptied p)) l ≡ pieceOutcomes (p ∷ ps)
+also-piece : (p : List ℕ) (l : List Outcome) (ps : List (List ℕ)) → NoEnd p → l ≡ pieceOutcomes ps → also (close (inside emptied p)) l ≡ pieceOutcomes (p ∷ ps)
 unfolding inside close pieceOutcomes
-also-piece [] l ps e = e
-also-piece (b ∷ p) l ps e = rw (close-piece b p, e)
+also-piece [] l ps n e = e
+also-piece (b ∷ p) l ps n e = rw (close-piece b p n, e)
 
-outcomes-next : (p : List ℕ) (b : ℕ) (w : List ℕ) → outcomes step emptied w ≡ pieceOutcomes (closed [] w)
-    → outcomes step (inside emptied (p ++ b ∷ [])) w ≡ pieceOutcomes (closed (p ++ b ∷ []) w)
+no-end-more : (p : List ℕ) (b : ℕ) → NoEnd p → eqb b END ≡ false → NoEnd (p ++ b ∷ [])
+no-end-more p b n e = every-append (λ b. b ≡ END → ⊥) p (b ∷ []) n (eqb-false b END e, tt)
+
+outcomes-next : (p : List ℕ) (b : ℕ) (w : List ℕ) → NoEnd p → outcomes step emptied w ≡ pieceOutcomes (closed [] w)
+    → (NoEnd (p ++ b ∷ []) → outcomes step (inside emptied (p ++ b ∷ [])) w ≡ pieceOutcomes (closed (p ++ b ∷ []) w))
     → outcomes step (inside emptied p) (b ∷ w) ≡ pieceOutcomes (closed p (b ∷ w))
 unfolding outcomes closed step inside
-outcomes-next p b w x y = go (eqb b END)
+outcomes-next p b w n x y = go (eqb b END) refl
   where
     s : State
     s = inside emptied p
 
-    go : (t : Bool)
+    go : (t : Bool) → eqb b END ≡ t
         → also (cond {A = State × Option Outcome} t (emptied, close s) (inner s b, none) .1)
         (outcomes step (cond {A = State × Option Outcome} t (emptied, close s) (inner s b, none) .0) w)
         ≡ pieceOutcomes (cond t (p ∷ closed [] w) (closed (p ++ b ∷ []) w))
-    go true = also-piece p (outcomes step emptied w) (closed [] w) x
-    go false = ap (λ (z : State). outcomes step z w) (sym (inside-append emptied p (b ∷ []))) ∙ y
+    go true e = also-piece p (outcomes step emptied w) (closed [] w) n x
+    go false e = ap (λ (z : State). outcomes step z w) (sym (inside-append emptied p (b ∷ []))) ∙ y (no-end-more p b n e)
 
--- both rules give the same outcomes, also where a piece p is open at the start
-pub outcomes-pieces : (p w : List ℕ) → outcomes step (inside emptied p) w ≡ pieceOutcomes (closed p w)
+-- both rules give the same outcomes with the same places, also where a piece p is open at the start
+pub outcomes-pieces : (p w : List ℕ) → NoEnd p → outcomes step (inside emptied p) w ≡ pieceOutcomes (closed p w)
 unfolding outcomes closed pieceOutcomes inside
-outcomes-pieces p [] = refl
-outcomes-pieces p (b ∷ w) = outcomes-next p b w (outcomes-pieces [] w) (outcomes-pieces (p ++ b ∷ []) w)
+outcomes-pieces p [] n = refl
+outcomes-pieces p (b ∷ w) n = outcomes-next p b w n (outcomes-pieces [] w tt) (outcomes-pieces (p ++ b ∷ []) w)
 
-final-next : (p : List ℕ) (b : ℕ) (w : List ℕ) → final step emptied w ≡ decode (last [] w)
-    → final step (inside emptied (p ++ b ∷ [])) w ≡ decode (last (p ++ b ∷ []) w)
+final-next : (p : List ℕ) (b : ℕ) (w : List ℕ) → NoEnd p → final step emptied w ≡ decode (last [] w)
+    → (NoEnd (p ++ b ∷ []) → final step (inside emptied (p ++ b ∷ [])) w ≡ decode (last (p ++ b ∷ []) w))
     → final step (inside emptied p) (b ∷ w) ≡ decode (last p (b ∷ w))
 unfolding final last step inside
-final-next p b w x y = go (eqb b END)
+final-next p b w n x y = go (eqb b END) refl
   where
     s : State
     s = inside emptied p
 
-    go : (t : Bool)
+    go : (t : Bool) → eqb b END ≡ t
         → final step (cond {A = State × Option Outcome} t (emptied, close s) (inner s b, none) .0) w ≡ decode (cond t (last [] w) (last (p ++ b ∷ []) w))
-    go true = x
-    go false = ap (λ (z : State). final step z w) (sym (inside-append emptied p (b ∷ []))) ∙ y
+    go true e = x
+    go false e = ap (λ (z : State). final step z w) (sym (inside-append emptied p (b ∷ []))) ∙ y (no-end-more p b n e)
 
 -- and the same end state: the open last piece is kept
-pub final-pieces : (p w : List ℕ) → final step (inside emptied p) w ≡ decode (last p w)
+pub final-pieces : (p w : List ℕ) → NoEnd p → final step (inside emptied p) w ≡ decode (last p w)
 unfolding final last inside
-final-pieces p [] = sym (decode-inside p)
-final-pieces p (b ∷ w) = final-next p b w (final-pieces [] w) (final-pieces (p ++ b ∷ []) w)
+final-pieces p [] n = sym (decode-inside p n)
+final-pieces p (b ∷ w) n = final-next p b w n (final-pieces [] w tt) (final-pieces (p ++ b ∷ []) w)
 
--- ---- from the state that a record is taken as
+-- ---- a packet's piece
 
-at-held : (h : List ℕ) (m : Mode) → length h ≤ limit → length (held (at h m)) ≤ limit
-at-held h Plain x = x
-at-held h Escaped x = x
-at-held h (Skipping f) x = omega arith
+-- it is the one escaped form of the packet's bytes, and a place in that form is a place in the piece
+pub packet-escaped : (p h : List ℕ) → NoEnd p → decode p ≡ plain h → p ≡ escape h
+packet-escaped p h n e = plain-escaped p h n (sym (decode-inside p n) ∙ e)
 
--- a record is taken as a state that holds no more than 255 bytes
-pub taken-held : (r : Reading) → length (held (taken r)) ≤ limit
-taken-held r = go (ltb limit (r .count)) refl
-  where
-    go : (t : Bool) → ltb limit (r .count) ≡ t → length (held (cond t emptied (at (take (r .count) (r .bytes)) (r .mode)))) ≤ limit
-    go true e = omega arith
-    go false e = at-held (take (r .count) (r .bytes)) (r .mode) (simp length-take (omega (arith, ltb-false)))
+-- there its decoded byte d stands, or that byte's ESC, behind the wire bytes of those before it
+pub byte-in-piece : (p h : List ℕ) (d : ℕ) → NoEnd p → decode p ≡ plain h → d < length h
+    → (take (onWire h (decodedAt d) .0) p ≡ escape (take d h)) × (getD p (onWire h (decodedAt d) .0) 0 ≡ cond (eqb (getD h d 0) END) ESC (getD h d 0))
+byte-in-piece p h d n e x = rw (packet-escaped p h n e) (onWire-before h d, onWire-byte h d x)
 
--- it is reached by bytes without an END
-pub written-reaches : (s : State) → length (held s) ≤ limit → inside emptied (written s) ≡ s
-unfolding written inside inner decoded wrongEscape tooLong
-written-reaches (plain h) x = inside-escaped [] h (omega arith)
-written-reaches (escaped h) x =
-    inside-append emptied (escape h) (ESC ∷ []) ∙ ap (λ (s : State). inner s ESC) (inside-escaped [] h (omega arith))
-written-reaches (skipping WrongEscape) x = refl
-written-reaches (skipping TooLong) x = refl
-
-module _ {A : Type 0} (P : A → Type 0) where
-  every-all : ((a : A) → P a) → (p : List A) → Every P p
-  every-all f [] = tt
-  every-all f (a ∷ p) = (f a, every-all f p)
-
-every-map : {A : Type 0} (P Q : A → Type 0) → ((a : A) → P a → Q a) → (p : List A) → Every P p → Every Q p
-every-map P Q f [] x = tt
-every-map P Q f (a ∷ p) x = (f a (x .0), every-map P Q f p (x .1))
-
--- what holds of ESC, of the bytes behind it and of each byte that is no END, holds of all that is sent
-module _ (P : ℕ → Type 0) (esc : P ESC) (esc-end : P ESC-END) (esc-esc : P ESC-ESC) where
-  escape-every : (p : List ℕ) → Every (λ b. eqb b END ≡ false → P b) p → Every P (escape p)
-  unfolding escape
-  escape-every [] x = tt
-  escape-every (b ∷ p) x = go (eqb b END) refl (eqb b ESC) (escape-every p (x .1))
-    where
-      go : (t : Bool) → eqb b END ≡ t → (u : Bool) → Every P (escape p)
-          → Every P (cond t (ESC ∷ ESC-END ∷ escape p) (cond u (ESC ∷ ESC-ESC ∷ escape p) (b ∷ escape p)))
-      go true e u y = (esc, (esc-end, y))
-      go false e true y = (esc, (esc-esc, y))
-      go false e false y = (x .0 e, y)
-
-  -- of the bytes that lead to a state, too
-  written-every : P 0 → (s : State) → Every (λ b. eqb b END ≡ false → P b) (held s) → Every P (written s)
-  unfolding written
-  written-every z (plain h) x = escape-every h x
-  written-every z (escaped h) x = every-append P (escape h) (ESC ∷ []) (escape-every h x) (esc, tt)
-  written-every z (skipping WrongEscape) x = (esc, (z, tt))
-  written-every z (skipping TooLong) x = every-replicate P (suc limit) 0 z
-
-pub written-no-end : (s : State) → NoEnd (written s)
-written-no-end s =
-    written-every (λ b. b ≡ END → ⊥) (λ e. omega arith) (λ e. omega arith) (λ e. omega arith) (λ e. omega arith) s
-    (every-all (λ b. eqb b END ≡ false → b ≡ END → ⊥) (λ b. eqb-false b END) (held s))
-
-pub written-bytes : (s : State) → Bytes (held s) → Bytes (written s)
-written-bytes s x =
-    written-every (λ b. b < 256) (omega arith) (omega arith) (omega arith) (omega arith) s
-    (every-map (λ b. b < 256) (λ b. eqb b END ≡ false → b < 256) (λ b h e. h) (held s) x)
+-- and its END behind all of them
+pub end-in-piece : (p h : List ℕ) → NoEnd p → decode p ≡ plain h → behind h .wire ≡ wireAt (length p)
+unfolding behind wireLength
+end-in-piece p h n e = ap (λ (l : List ℕ). wireAt (length l)) (sym (packet-escaped p h n e))
 
 -- ---- the cut
 

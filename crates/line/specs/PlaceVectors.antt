@@ -1,29 +1,22 @@
--- Places on bytes: document 01's P7, wrong escapes and 256th bytes with escapes before and at the place, and the bounds' edges.
+-- Places on bytes: wrong escapes and 256th bytes with escapes before, at and behind the place, read byte by byte and counted along the piece,
+-- and the bounds' edges.
 use Prim.Native.Nat.{ℕ}
 use mathlib.Core.Path.{_≡_, refl}
 use mathlib.Core.List.{List, [], _∷_, _++_, map}
 use mathlib.Core.Bool.{true, false}
-use mathlib.Core.Option.{some}
 use lib.ListN.{replicate}
-use Rattle.line.specs.declared.Fault.{Fault}
 use Rattle.line.specs.declared.Fault.the-variants.{WrongEscape, TooLong}
 use Rattle.line.specs.Wire.{escape}
 use Rattle.line.specs.Scan.{outcomes, final}
-use Rattle.line.specs.Places.{wireAt, decodedAt, FaultAt, wireLength, onWire, behind, behindEsc, wrongEscapeAt, tooLongAt}
-use Rattle.line.specs.Placed.{escaped, skipping, emptied, PlacedOutcome, packet, refused, decoded, inner, close, step}
-use Rattle.line.specs.PlacedPieces.{faultAt, firstFault, faultClosed}
+use Rattle.line.specs.Places.{wireAt, decodedAt, wireLength, onWire, behind, behindEsc}
+use Rattle.line.specs.Reader.{wrongEscape, tooLong, escaped, skipping, emptied, Outcome, packet, decoded, inner, close, step}
+use Rattle.line.specs.Pieces.{symbols, settle, decode, outcome}
 use Rattle.line.specs.Reachable.{decodedFits, possible, written}
+use Rattle.line.specs.ReaderVectors.{gives, refusedAt, broken}
 
--- what a wire gives
-abbrev gives : List ℕ → List PlacedOutcome
-gives = outcomes step emptied
-
--- refused n at w d, as the listing writes it
-abbrev refusedAt : ℕ → ℕ → ℕ → PlacedOutcome
-refusedAt n w d = refused (record { number = n; at = record { wire = wireAt w; decoded = decodedAt d } })
-
-abbrev broken : Fault → ℕ → ℕ → FaultAt
-broken f w d = faultAt f (wireAt w) (decodedAt d)
+-- the outcome of a closed piece, its places counted along it
+abbrev counted : List ℕ → Outcome
+counted p = outcome p (decode p)
 
 -- where each of these bytes stands on the wire; an escaped one where its ESC does
 on-wire :
@@ -33,26 +26,27 @@ unfolding onWire wireLength escape
 on-wire = refl
 
 -- P7: the END is the byte after the ESC
-p7 : gives (0xC0 ∷ 0xDB ∷ 0xC0 ∷ []) ≡ refusedAt 1 1 0 ∷ []
-unfolding outcomes step inner close wrongEscapeAt behindEsc wireLength escape
+p7 : counted (0xDB ∷ []) ≡ refusedAt 1 1 0
+unfolding symbols settle decode outcome
 p7 = refl
-
-p7-counted : faultClosed (0xDB ∷ []) ≡ some (broken WrongEscape 1 0)
-unfolding firstFault
-p7-counted = refl
 
 -- an ESC behind escaped bytes
 esc-behind : gives (0xDB ∷ 0xDC ∷ 0x07 ∷ 0xDB ∷ 0xDD ∷ 0xDB ∷ 0x00 ∷ 0x05 ∷ 0xC0 ∷ []) ≡ refusedAt 1 6 3 ∷ []
-unfolding outcomes step inner decoded close wrongEscapeAt behindEsc wireLength escape
+unfolding outcomes step inner decoded close wrongEscape behindEsc wireLength escape
 esc-behind = refl
 
-esc-behind-counted : faultClosed (0xDB ∷ 0xDC ∷ 0x07 ∷ 0xDB ∷ 0xDD ∷ 0xDB ∷ 0x00 ∷ 0x05 ∷ []) ≡ some (broken WrongEscape 6 3)
-unfolding firstFault
+esc-behind-counted : counted (0xDB ∷ 0xDC ∷ 0x07 ∷ 0xDB ∷ 0xDD ∷ 0xDB ∷ 0x00 ∷ 0x05 ∷ []) ≡ refusedAt 1 6 3
+unfolding symbols settle decode outcome
 esc-behind-counted = refl
+
+-- escapes behind the place are skipped
+esc-before : gives (0x07 ∷ 0xDB ∷ 0x07 ∷ 0xDB ∷ 0xDC ∷ 0xDB ∷ 0xDB ∷ 0xC0 ∷ []) ≡ refusedAt 1 2 1 ∷ []
+unfolding outcomes step inner decoded close wrongEscape behindEsc wireLength escape
+esc-before = refl
 
 -- places count from the last END, not from the first byte
 since-end : gives (0x07 ∷ 0x08 ∷ 0xC0 ∷ 0xC0 ∷ 0x09 ∷ 0xDB ∷ 0xDB ∷ 0xC0 ∷ []) ≡ packet (0x07 ∷ 0x08 ∷ []) ∷ refusedAt 1 2 1 ∷ []
-unfolding outcomes step inner decoded close wrongEscapeAt behindEsc wireLength escape
+unfolding outcomes step inner decoded close wrongEscape behindEsc wireLength escape
 since-end = refl
 
 -- the ESC in one call, and the fault in the next
@@ -61,24 +55,29 @@ unfolding final step inner decoded
 esc-kept = refl
 
 esc-next : final step (escaped (0xC0 ∷ [])) (0x00 ∷ 0x01 ∷ []) ≡ skipping (broken WrongEscape 3 1)
-unfolding final step inner wrongEscapeAt behindEsc wireLength escape
+unfolding final step inner wrongEscape behindEsc wireLength escape
 esc-next = refl
 
--- 256 decoded bytes: none of them escaped, the last, and all
-too-long : map (λ (h : List ℕ). faultClosed (escape h)) (replicate 256 0x07 ∷ (replicate 255 0x07 ++ 0xC0 ∷ []) ∷ replicate 256 0xDB ∷ [])
-    ≡ map (λ (w : ℕ). some (broken TooLong w 255)) (255 ∷ 255 ∷ 510 ∷ [])
-unfolding firstFault escape
+-- 256 decoded bytes: none of them escaped, the last, some, and all; escapes behind the place are skipped
+abbrev long : List (List ℕ)
+long = replicate 256 0x07 ∷ (replicate 255 0x07 ++ 0xC0 ∷ []) ∷ (replicate 155 0x07 ++ replicate 101 0xC0) ∷ replicate 256 0xDB ∷ (replicate 256 0x07 ++ 0xC0 ∷ []) ∷ []
+
+too-long : map (λ (h : List ℕ). counted (escape h)) long ≡ map (λ (w : ℕ). refusedAt 2 w 255) (255 ∷ 255 ∷ 355 ∷ 510 ∷ 255 ∷ [])
+unfolding symbols settle decode outcome escape
 too-long = refl
 
-too-long-read : map (λ (h : List ℕ). gives (escape h ++ 0x00 ∷ 0xC0 ∷ [])) (replicate 256 0x07 ∷ (replicate 255 0x07 ++ 0xC0 ∷ []) ∷ replicate 256 0xDB ∷ [])
-    ≡ map (λ (w : ℕ). refusedAt 2 w 255 ∷ []) (255 ∷ 255 ∷ 510 ∷ [])
-unfolding outcomes step inner decoded close tooLongAt behind wireLength escape
+too-long-read : map (λ (h : List ℕ). gives (escape h ++ 0x00 ∷ 0xC0 ∷ [])) long ≡ map (λ (w : ℕ). refusedAt 2 w 255 ∷ []) (255 ∷ 255 ∷ 355 ∷ 510 ∷ 255 ∷ [])
+unfolding outcomes step inner decoded close tooLong behind wireLength escape
 too-long-read = refl
 
 -- 255 are held, and a wrong escape behind them has the greatest places
 esc-last : gives (escape (replicate 255 0xC0) ++ 0xDB ∷ 0xC0 ∷ []) ≡ refusedAt 1 511 255 ∷ []
-unfolding outcomes step inner decoded close wrongEscapeAt behindEsc wireLength escape
+unfolding outcomes step inner decoded close wrongEscape behindEsc wireLength escape
 esc-last = refl
+
+esc-last-counted : counted (escape (replicate 255 0xC0) ++ 0xDB ∷ []) ≡ refusedAt 1 511 255
+unfolding symbols settle decode outcome escape
+esc-last-counted = refl
 
 -- the bounds' edges, and one beyond each
 edges : map possible
@@ -116,3 +115,12 @@ in-between : map written (skipping (broken WrongEscape 4 2) ∷ skipping (broken
     ≡ (0xDB ∷ 0xDC ∷ 0x00 ∷ 0xDB ∷ 0x00 ∷ []) ∷ (0xDB ∷ 0x00 ∷ []) ∷ []
 unfolding written escape
 in-between = refl
+
+-- the ESC in one call; in the next the END, or what makes it a 256th byte, which stands at its ESC
+esc-then-end : outcomes step (escaped (0xC0 ∷ [])) (0xC0 ∷ []) ≡ refusedAt 1 3 1 ∷ []
+unfolding outcomes step close wrongEscape behindEsc wireLength escape
+esc-then-end = refl
+
+esc-then-long : map (λ (b : ℕ). final step (escaped (replicate 255 0xC0)) (b ∷ [])) (0xDC ∷ 0xDD ∷ 0xDE ∷ []) ≡ skipping (broken TooLong 510 255) ∷ skipping (broken TooLong 510 255) ∷ skipping (broken WrongEscape 511 255) ∷ []
+unfolding final step inner decoded tooLong wrongEscape behind behindEsc wireLength escape
+esc-then-long = refl

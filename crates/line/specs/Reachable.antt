@@ -8,9 +8,8 @@ use lib.Dec.{leb, eqb}
 use Rattle.line.specs.declared.Fault.{Fault}
 use Rattle.line.specs.declared.Fault.the-variants.{WrongEscape, TooLong}
 use Rattle.line.specs.Wire.{END, ESC, escape}
-use Rattle.line.specs.Reader.{limit}
 use Rattle.line.specs.Places.{WirePlace, DecodedPlace, wireAt, FaultAt}
-use Rattle.line.specs.Placed.{Placed, plain, escaped, skipping, refusalAt, PlacedOutcome, packet, refused}
+use Rattle.line.specs.Reader.{limit, refusal, State, plain, escaped, skipping, Outcome, packet, refused}
 
 -- a fault's decoded place: at most 255 bytes stand before a wrong escape, and 255 before the 256th
 abbrev pub DecodedFits : Fault → DecodedPlace → Type 0
@@ -43,15 +42,15 @@ possible f =
     && leb (f .at .wire .0) (mostWire (f .fault) (f .at .decoded) .0)
 
 -- a state that some bytes leave: it holds no more than 255 bytes, or a fault within the bounds
-abbrev pub Reachable : Placed → Type 0
+abbrev pub Reachable : State → Type 0
 Reachable (plain h) = length h ≤ limit
 Reachable (escaped h) = length h ≤ limit
 Reachable (skipping f) = Possible f
 
 -- an outcome that some bytes give: a packet of 1 to 255 bytes, or the refusal of a fault within the bounds
-abbrev pub PossibleOutcome : PlacedOutcome → Type 0
+abbrev pub PossibleOutcome : Outcome → Type 0
 PossibleOutcome (packet h) = (0 < length h) × (length h ≤ limit)
-PossibleOutcome (refused n) = (f : FaultAt) × Possible f × (refusalAt f ≡ n)
+PossibleOutcome (refused n) = (f : FaultAt) × Possible f × (refusal f ≡ n)
 
 -- n decoded bytes, the first e of them sent escaped
 abbrev pub mixed : ℕ → ℕ → List ℕ
@@ -63,7 +62,7 @@ settling WrongEscape w d = escape (mixed (d .0) (w .0 - leastWire WrongEscape d 
 settling TooLong w d = escape (mixed (d .0) (w .0 - leastWire TooLong d .0)) ++ 0 ∷ []
 
 -- bytes without an END that lead from between packets to a state
-unfoldable pub written : Placed → List ℕ
+unfoldable pub written : State → List ℕ
 written (plain h) = escape h
 written (escaped h) = escape h ++ ESC ∷ []
 written (skipping f) = settling (f .fault) (f .at .wire) (f .at .decoded)

@@ -7,34 +7,29 @@ use mathlib.Core.Option.{Option, none}
 use native.Mathlib.Omega.{arith}
 use lib.ListN.{length, take, replicate, length-append, length-replicate}
 use lib.Dec.{ltb, leb, eqb}
-use borrow.Author.Tests.{ltb-true, ltb-false, leb-true, eqb-true, le-ltb, le-leb, eq-eqb, ne-eqb}
+use borrow.Author.Tests.{ltb-true, ltb-false, leb-true, eqb-true, eqb-false, le-ltb, le-leb, eq-eqb, ne-eqb}
 use Rattle.line.specs.declared.Fault.{Fault}
 use Rattle.line.specs.declared.Fault.the-variants.{WrongEscape, TooLong}
 use Rattle.line.specs.Wire.{END, ESC, ESC-END, ESC-ESC, escape}
 use Rattle.line.specs.Scan.{also, outcomes, final}
 use Rattle.line.specs.ScanLaws.{scan-tells}
-use Rattle.line.specs.Reader as reader
-use Rattle.line.specs.Reader.{limit}
-use Rattle.line.specs.ReaderLaws as readerLaws
-use Rattle.line.specs.Pieces as pieces
-use Rattle.line.specs.Pieces.{Every, NoEnd, Bytes}
-use Rattle.line.specs.PieceLaws as pieceLaws
-use Rattle.line.specs.EveryLaws.{every-append, every-replicate}
-use Rattle.line.specs.Places.{WirePlace, DecodedPlace, FaultAt, wireLength, behind, behindEsc, wrongEscapeAt, tooLongAt}
+use Rattle.line.specs.Places.{WirePlace, DecodedPlace, FaultAt, wireLength, behind, behindEsc}
 use Rattle.line.specs.PlaceLaws.{wireLength-append, wireLength-least, wireLength-most}
-use Rattle.line.specs.Placed.{Placed, plain, escaped, skipping, emptied, PlacedOutcome, decoded, inner, inside, close, step, read, forget}
-use Rattle.line.specs.PlacedLaws.{inside-append, inside-forget}
+use Rattle.line.specs.Reader.{limit, wrongEscape, tooLong, State, plain, escaped, skipping, emptied, held, Outcome, decoded, inner, inside, close, step, read}
+use Rattle.line.specs.ReaderLaws.{cond-holds, inside-append, inside-escaped}
+use Rattle.line.specs.Pieces.{Every, NoEnd, Bytes}
+use Rattle.line.specs.EveryLaws.{every-all, every-map, every-append, every-replicate}
 use Rattle.line.specs.Reachable.{DecodedFits, leastWire, mostWire, Possible, decodedFits, possible, PossibleOutcome, Reachable, mixed, settling, written}
 
 -- ---- the bounds
 
-pub wrongEscape-possible : (h : List ℕ) → length h ≤ limit → Possible (wrongEscapeAt h)
-unfolding wrongEscapeAt behindEsc
+pub wrongEscape-possible : (h : List ℕ) → length h ≤ limit → Possible (wrongEscape h)
+unfolding wrongEscape behindEsc
 wrongEscape-possible h x =
     record { decoded = x; least = omega (arith, wireLength-least h); most = omega (arith, wireLength-most h) }
 
-pub tooLong-possible : (h : List ℕ) → length h ≡ limit → Possible (tooLongAt h)
-unfolding tooLongAt behind
+pub tooLong-possible : (h : List ℕ) → length h ≡ limit → Possible (tooLong h)
+unfolding tooLong behind
 tooLong-possible h x =
     record { decoded = x; least = wireLength-least h; most = wireLength-most h }
 
@@ -64,76 +59,68 @@ pub possible-test : (f : FaultAt) → Possible f → possible f ≡ true
 unfolding possible
 possible-test f p = rw (fits-test (f .fault) (f .at .decoded) (p .decoded), le-leb _ _ (p .least), le-leb _ _ (p .most))
 
-placed-holds : (P : Placed → Type 0) (t : Bool) (s v : Placed) → P s → P v → P (cond t s v)
-placed-holds P true s v x y = x
-placed-holds P false s v x y = y
-
 decoded-reachable : (h : List ℕ) (b : ℕ) → length h ≤ limit → Reachable (decoded h b)
 unfolding decoded
 decoded-reachable h b x = go (ltb (length h) limit) refl
   where
-    go : (t : Bool) → ltb (length h) limit ≡ t → Reachable (cond t (plain (h ++ b ∷ [])) (skipping (tooLongAt h)))
+    go : (t : Bool) → ltb (length h) limit ≡ t → Reachable (cond t (plain (h ++ b ∷ [])) (skipping (tooLong h)))
     go true e = omega (arith, ltb-true, length-append h (b ∷ []))
     go false e = tooLong-possible h (omega (arith, ltb-false))
 
-inner-reachable : (s : Placed) (b : ℕ) → Reachable s → Reachable (inner s b)
+inner-reachable : (s : State) (b : ℕ) → Reachable s → Reachable (inner s b)
 unfolding inner
-inner-reachable (plain h) b x = placed-holds Reachable (eqb b ESC) _ _ x (decoded-reachable h b x)
+inner-reachable (plain h) b x = cond-holds Reachable (eqb b ESC) _ _ x (decoded-reachable h b x)
 inner-reachable (escaped h) b x =
-    placed-holds Reachable (eqb b ESC-END) _ _ (decoded-reachable h END x)
-    (placed-holds Reachable (eqb b ESC-ESC) _ _ (decoded-reachable h ESC x) (wrongEscape-possible h x))
+    cond-holds Reachable (eqb b ESC-END) _ _ (decoded-reachable h END x)
+    (cond-holds Reachable (eqb b ESC-ESC) _ _ (decoded-reachable h ESC x) (wrongEscape-possible h x))
 inner-reachable (skipping f) b x = x
 
-step-reachable : (s : Placed) (b : ℕ) → Reachable s → Reachable (step s b .0)
+step-reachable : (s : State) (b : ℕ) → Reachable s → Reachable (step s b .0)
 unfolding step
 step-reachable s b x = go (eqb b END)
   where
-    go : (t : Bool) → Reachable (cond {A = Placed × Option PlacedOutcome} t (emptied, close s) (inner s b, none) .0)
+    go : (t : Bool) → Reachable (cond {A = State × Option Outcome} t (emptied, close s) (inner s b, none) .0)
     go true = omega arith
     go false = inner-reachable s b x
 
+pub step-possible : (s : State) (b : ℕ) (f : FaultAt) → Reachable s → step s b ≡ (skipping f, none) → Possible f
+step-possible s b f x e =
+    let z : step s b .0 ≡ skipping f = ap (λ (y : State × Option Outcome). y .0) e in
+    rw z at (step-reachable s b x)
+
 -- no bytes leave a state beyond the bounds, nor places beyond them
-pub final-reachable : (s : Placed) (w : List ℕ) → Reachable s → Reachable (final step s w)
+pub final-reachable : (s : State) (w : List ℕ) → Reachable s → Reachable (final step s w)
 unfolding final
 final-reachable s [] x = x
 final-reachable s (b ∷ w) x = final-reachable (step s b .0) w (step-reachable s b x)
 
-pub read-reachable : (s : Placed) (w : List ℕ) → Reachable s → Reachable (read s w .after)
+pub read-reachable : (s : State) (w : List ℕ) → Reachable s → Reachable (read s w .after)
 read-reachable s w x = rw (scan-tells step s w .after) at (final-reachable s (take (read s w .used) w) x)
 
 pub bytes-reachable : (w : List ℕ) → Reachable (final step emptied w)
 bytes-reachable w = final-reachable emptied w (omega arith)
 
-close-possible : (s : Placed) (l : List PlacedOutcome) → Reachable s → Every PossibleOutcome l → Every PossibleOutcome (also (close s) l)
+close-possible : (s : State) (l : List Outcome) → Reachable s → Every PossibleOutcome l → Every PossibleOutcome (also (close s) l)
 unfolding close
 close-possible (plain []) l x y = y
 close-possible (plain (b ∷ h)) l x y = ((omega arith, x), y)
-close-possible (escaped h) l x y = ((wrongEscapeAt h, wrongEscape-possible h x, refl), y)
+close-possible (escaped h) l x y = ((wrongEscape h, wrongEscape-possible h x, refl), y)
 close-possible (skipping f) l x y = ((f, x, refl), y)
 
 -- and none give an outcome with places beyond them
-pub outcomes-possible : (s : Placed) (w : List ℕ) → Reachable s → Every PossibleOutcome (outcomes step s w)
+pub outcomes-possible : (s : State) (w : List ℕ) → Reachable s → Every PossibleOutcome (outcomes step s w)
 unfolding outcomes step
 outcomes-possible s [] x = tt
 outcomes-possible s (b ∷ w) x = go (eqb b END) (outcomes-possible emptied w (omega arith)) (outcomes-possible (inner s b) w (inner-reachable s b x))
   where
     go : (t : Bool) → Every PossibleOutcome (outcomes step emptied w) → Every PossibleOutcome (outcomes step (inner s b) w)
         → Every PossibleOutcome
-        (also (cond {A = Placed × Option PlacedOutcome} t (emptied, close s) (inner s b, none) .1)
-        (outcomes step (cond {A = Placed × Option PlacedOutcome} t (emptied, close s) (inner s b, none) .0) w))
+        (also (cond {A = State × Option Outcome} t (emptied, close s) (inner s b, none) .1)
+        (outcomes step (cond {A = State × Option Outcome} t (emptied, close s) (inner s b, none) .0) w))
     go true y z = close-possible s (outcomes step emptied w) x y
     go false y z = z
 
 -- ---- every state within the bounds is left by some bytes
-
-forget-plain : (s : Placed) (h : List ℕ) → forget s ≡ reader.plain h → s ≡ plain h
-forget-plain (plain k) h e = cc
-forget-plain (escaped k) h e = let z : _≡_ {A = ℕ} 0 1 = cc in absurd (omega arith)
-forget-plain (skipping f) h e = let z : _≡_ {A = ℕ} 0 1 = cc in absurd (omega arith)
-
--- what is sent escaped is decoded, as far as there is room for it
-inside-escaped : (h : List ℕ) → length h ≤ limit → inside emptied (escape h) ≡ plain h
-inside-escaped h x = forget-plain (inside emptied (escape h)) h (inside-forget emptied (escape h) ∙ readerLaws.inside-escaped [] h (omega arith))
 
 -- n bytes with e of them escaped
 mixed-length : (n e : ℕ) → e ≤ n → length (mixed n e) ≡ n
@@ -154,17 +141,17 @@ mixed-wire n e x = omega (arith, wireLength-append (replicate e END) (replicate 
 
 -- the bytes before a fault fix its places
 wrongEscape-places : (h : List ℕ) (w : WirePlace) (d : DecodedPlace) → wireLength h + 1 ≡ w .0 → length h ≡ d .0
-    → wrongEscapeAt h ≡ record { fault = WrongEscape; at = record { wire = w; decoded = d } }
-unfolding wrongEscapeAt behindEsc
+    → wrongEscape h ≡ record { fault = WrongEscape; at = record { wire = w; decoded = d } }
+unfolding wrongEscape behindEsc
 wrongEscape-places h w d x y = rw (x, y)
 
 tooLong-places : (h : List ℕ) (w : WirePlace) (d : DecodedPlace) → wireLength h ≡ w .0 → length h ≡ d .0
-    → tooLongAt h ≡ record { fault = TooLong; at = record { wire = w; decoded = d } }
-unfolding tooLongAt behind
+    → tooLong h ≡ record { fault = TooLong; at = record { wire = w; decoded = d } }
+unfolding tooLong behind
 tooLong-places h w d x y = rw (x, y)
 
 -- a byte that is decoded behind 255 others
-decoded-full : (h : List ℕ) (b : ℕ) → length h ≡ limit → decoded h b ≡ skipping (tooLongAt h)
+decoded-full : (h : List ℕ) (b : ℕ) → length h ≡ limit → decoded h b ≡ skipping (tooLong h)
 unfolding decoded
 decoded-full h b x = rw (le-ltb (length h) limit (omega arith))
 
@@ -180,7 +167,7 @@ settling-reaches WrongEscape w d p =
     let c : w .0 ≤ 2 * n + 1 = p .most in
     let x : e ≤ n = omega arith in
     inside-append emptied (escape m) (ESC ∷ 0 ∷ [])
-    ∙ ap (λ (s : Placed). inside s (ESC ∷ 0 ∷ [])) (inside-escaped m (omega (arith, mixed-length n e x)))
+    ∙ ap (λ (s : State). inside s (ESC ∷ 0 ∷ [])) (inside-escaped [] m (omega (arith, mixed-length n e x)))
     ∙ ap skipping (wrongEscape-places m w d (omega (arith, mixed-wire n e x)) (mixed-length n e x))
 settling-reaches TooLong w d p =
     let n = d .0 in
@@ -191,54 +178,69 @@ settling-reaches TooLong w d p =
     let c : w .0 ≤ 2 * n = p .most in
     let x : e ≤ n = omega arith in
     inside-append emptied (escape m) (0 ∷ [])
-    ∙ ap (λ (s : Placed). inside s (0 ∷ [])) (inside-escaped m (omega (arith, mixed-length n e x)))
+    ∙ ap (λ (s : State). inside s (0 ∷ [])) (inside-escaped [] m (omega (arith, mixed-length n e x)))
     ∙ decoded-full m 0 (mixed-length n e x ∙ a)
     ∙ ap skipping (tooLong-places m w d (omega (arith, mixed-wire n e x)) (mixed-length n e x))
 
-pub written-reaches : (s : Placed) → Reachable s → inside emptied (written s) ≡ s
+pub written-reaches : (s : State) → Reachable s → inside emptied (written s) ≡ s
 unfolding written inside inner
-written-reaches (plain h) x = inside-escaped h x
-written-reaches (escaped h) x = inside-append emptied (escape h) (ESC ∷ []) ∙ ap (λ (s : Placed). inner s ESC) (inside-escaped h x)
+written-reaches (plain h) x = inside-escaped [] h (omega arith)
+written-reaches (escaped h) x = inside-append emptied (escape h) (ESC ∷ []) ∙ ap (λ (s : State). inner s ESC) (inside-escaped [] h (omega arith))
 written-reaches (skipping f) x = settling-reaches (f .fault) (f .at .wire) (f .at .decoded) x
 
--- no byte of them is an END
-settling-every : (P : ℕ → Type 0) → P 0 → P ESC → (f : Fault) (w : WirePlace) (d : DecodedPlace)
-    → ((n e : ℕ) → Every P (escape (mixed n e))) → Every P (settling f w d)
-settling-every P z x WrongEscape w d m =
-    every-append P (escape (mixed (d .0) (w .0 - leastWire WrongEscape d .0))) (ESC ∷ 0 ∷ []) (m (d .0) (w .0 - leastWire WrongEscape d .0)) (x, (z, tt))
-settling-every P z x TooLong w d m =
-    every-append P (escape (mixed (d .0) (w .0 - leastWire TooLong d .0))) (0 ∷ []) (m (d .0) (w .0 - leastWire TooLong d .0)) (z, tt)
+-- what holds of ESC, of the bytes behind it and of each byte that is no END, holds of all that is sent
+module _ (P : ℕ → Type 0) (zero-byte : P 0) (esc : P ESC) (esc-end : P ESC-END) (esc-esc : P ESC-ESC) where
+  escape-every : (p : List ℕ) → Every (λ b. eqb b END ≡ false → P b) p → Every P (escape p)
+  unfolding escape
+  escape-every [] x = tt
+  escape-every (b ∷ p) x = go (eqb b END) refl (eqb b ESC) (escape-every p (x .1))
+    where
+      go : (t : Bool) → eqb b END ≡ t → (u : Bool) → Every P (escape p)
+          → Every P (cond t (ESC ∷ ESC-END ∷ escape p) (cond u (ESC ∷ ESC-ESC ∷ escape p) (b ∷ escape p)))
+      go true e u y = (esc, (esc-end, y))
+      go false e true y = (esc, (esc-esc, y))
+      go false e false y = (x .0 e, y)
 
-pub written-no-end : (s : Placed) → NoEnd (written s)
-unfolding written pieces.written
-written-no-end (plain h) = pieceLaws.written-no-end (reader.plain h)
-written-no-end (escaped h) = pieceLaws.written-no-end (reader.escaped h)
-written-no-end (skipping f) =
-    settling-every (λ b. b ≡ END → ⊥) (λ e. omega arith) (λ e. omega arith) (f .fault) (f .at .wire) (f .at .decoded)
-    (λ n e. pieceLaws.written-no-end (reader.plain (mixed n e)))
+  mixed-every : (n e : ℕ) → Every P (escape (mixed n e))
+  mixed-every n e =
+      escape-every (mixed n e)
+      (every-append (λ b. eqb b END ≡ false → P b) (replicate e END) (replicate (n - e) 0)
+      (every-replicate (λ b. eqb b END ≡ false → P b) e END (λ x. let z : _≡_ {A = ℕ} 0 1 = cc in absurd (omega arith)))
+      (every-replicate (λ b. eqb b END ≡ false → P b) (n - e) 0 (λ x. zero-byte)))
+
+  settling-every : (f : Fault) (w : WirePlace) (d : DecodedPlace) → Every P (settling f w d)
+  settling-every WrongEscape w d =
+      every-append P (escape (mixed (d .0) (w .0 - leastWire WrongEscape d .0))) (ESC ∷ 0 ∷ []) (mixed-every (d .0) (w .0 - leastWire WrongEscape d .0)) (esc, (zero-byte, tt))
+  settling-every TooLong w d =
+      every-append P (escape (mixed (d .0) (w .0 - leastWire TooLong d .0))) (0 ∷ []) (mixed-every (d .0) (w .0 - leastWire TooLong d .0)) (zero-byte, tt)
+
+  -- of the bytes that lead to a state, too
+  written-every : (s : State) → Every (λ b. eqb b END ≡ false → P b) (held s) → Every P (written s)
+  unfolding written
+  written-every (plain h) x = escape-every h x
+  written-every (escaped h) x = every-append P (escape h) (ESC ∷ []) (escape-every h x) (esc, tt)
+  written-every (skipping f) x = settling-every (f .fault) (f .at .wire) (f .at .decoded)
+
+-- no byte of them is an END
+pub written-no-end : (s : State) → NoEnd (written s)
+written-no-end s =
+    written-every (λ b. b ≡ END → ⊥) (λ e. omega arith) (λ e. omega arith) (λ e. omega arith) (λ e. omega arith) s
+    (every-all (λ b. eqb b END ≡ false → b ≡ END → ⊥) (λ b. eqb-false b END) (held s))
 
 -- where the bytes held are bytes, so are they
-mixed-bytes : (n e : ℕ) → Bytes (mixed n e)
-mixed-bytes n e =
-    every-append (λ b. b < 256) (replicate e END) (replicate (n - e) 0)
-    (every-replicate (λ b. b < 256) e END (omega arith)) (every-replicate (λ b. b < 256) (n - e) 0 (omega arith))
-
-pub written-bytes : (s : Placed) → Bytes (reader.held (forget s)) → Bytes (written s)
-unfolding written pieces.written
-written-bytes (plain h) x = pieceLaws.written-bytes (reader.plain h) x
-written-bytes (escaped h) x = pieceLaws.written-bytes (reader.escaped h) x
-written-bytes (skipping f) x =
-    settling-every (λ b. b < 256) (omega arith) (omega arith) (f .fault) (f .at .wire) (f .at .decoded)
-    (λ n e. pieceLaws.written-bytes (reader.plain (mixed n e)) (mixed-bytes n e))
+pub written-bytes : (s : State) → Bytes (held s) → Bytes (written s)
+written-bytes s x =
+    written-every (λ b. b < 256) (omega arith) (omega arith) (omega arith) (omega arith) s
+    (every-map (λ b. b < 256) (λ b. eqb b END ≡ false → b < 256) (λ b h e. h) (held s) x)
 
 -- bytes without an END are read one after another
-pub final-inside : (s : Placed) (p : List ℕ) → NoEnd p → final step s p ≡ inside s p
+pub final-inside : (s : State) (p : List ℕ) → NoEnd p → final step s p ≡ inside s p
 unfolding final step inside
 final-inside s [] n = refl
 final-inside s (b ∷ p) n = rw (ne-eqb b END (n .0)) (final-inside (inner s b) p (n .1))
 
 -- every state within the bounds is left by an open piece, read from between packets
-pub reachable-written : (s : Placed) → Reachable s → final step emptied (written s) ≡ s
+pub reachable-written : (s : State) → Reachable s → final step emptied (written s) ≡ s
 reachable-written s x = final-inside emptied (written s) (written-no-end s) ∙ written-reaches s x
 
 -- ---- the places of a fault

@@ -9,31 +9,39 @@ use Rattle.line.specs.declared.Fault.{Fault}
 use Rattle.line.specs.declared.Fault.the-variants.{WrongEscape, TooLong}
 use Rattle.line.specs.Wire.{END, ESC, ESC-END, ESC-ESC}
 use Rattle.line.specs.Scan.{Scan, scan}
+use Rattle.line.specs.Places.{Places, FaultAt, behind, behindEsc}
 
 -- up to 255 decoded bytes are held
 abbrev pub limit : ℕ
 limit = 255
 
--- what a packet refusal tells: document 01's number of it
-abbrev pub Refusal : Type 0
-Refusal = ℕ
+-- document 01's number of a fault
+abbrev pub number : Fault → ℕ
+number WrongEscape = 1
+number TooLong = 2
 
-abbrev pub refusal : Fault → Refusal
-refusal WrongEscape = 1
-refusal TooLong = 2
+-- what a packet refusal tells: its number, and where
+pub record Refusal : Type 0 where
+  pub number : ℕ
+  pub at : Places
 
--- the fault that settles a piece, by the bytes decoded before it
-unfoldable pub wrongEscape : List ℕ → Fault
-wrongEscape h = WrongEscape
+abbrev pub refusal : FaultAt → Refusal
+refusal f = record { number = number (f .fault); at = f .at }
 
-unfoldable pub tooLong : List ℕ → Fault
-tooLong h = TooLong
+-- the fault that settles a piece, by the bytes h decoded before it: of a wrong escape the byte after the ESC, decoded place the count so far
+unfoldable pub wrongEscape : List ℕ → FaultAt
+wrongEscape h = record { fault = WrongEscape; at = behindEsc h }
 
--- the reading state: decoded bytes, the same behind an ESC, or the rest of a settled piece, in which no bytes are held
+-- and the 256th byte
+unfoldable pub tooLong : List ℕ → FaultAt
+tooLong h = record { fault = TooLong; at = behind h }
+
+-- the reading state: decoded bytes, the same behind an ESC, or the rest of a settled piece, in which no bytes are held but the fault with its
+-- places is
 pub data State : Type 0 where
   plain : List ℕ → State
   escaped : List ℕ → State
-  skipping : Fault → State
+  skipping : FaultAt → State
 
 -- between packets
 abbrev pub emptied : State

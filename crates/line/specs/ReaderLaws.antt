@@ -9,8 +9,8 @@ use lib.ListN.{length, length-append}
 use lib.Seq.{append-snoc}
 use lib.Dec.{eqb}
 use borrow.Author.Tests.{eqb-true, lt-ltb}
-use Rattle.line.specs.declared.Fault.{Fault}
 use Rattle.line.specs.Wire.{END, ESC, escape}
+use Rattle.line.specs.Places.{FaultAt}
 use Rattle.line.specs.Reader.{limit, State, plain, skipping, emptied, Outcome, decoded, inner, inside, close, step}
 
 -- what holds of two states holds of the one that a test picks
@@ -34,7 +34,7 @@ inside-append s [] q = refl
 inside-append s (b ∷ p) q = inside-append (inner s b) p q
 
 -- the rest of a settled piece is skipped
-pub inside-skipping : (f : Fault) (p : List ℕ) → inside (skipping f) p ≡ skipping f
+pub inside-skipping : (f : FaultAt) (p : List ℕ) → inside (skipping f) p ≡ skipping f
 unfolding inside inner
 inside-skipping f [] = refl
 inside-skipping f (b ∷ p) = inside-skipping f p

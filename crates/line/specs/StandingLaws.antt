@@ -1,11 +1,11 @@
 -- The wire bytes of an open piece follow from the bytes held, so that neither they nor their number need be kept.
-use Prim.Native.Nat.{ℕ, _<_}
+use Prim.Native.Nat.{ℕ}
 use mathlib.Core.Path.{_≡_, refl, sym, ap, _∙_}
 use mathlib.Core.List.{List, [], _∷_, _++_, append-nil, append-assoc}
 use mathlib.Core.Bool.{Bool, true, false, cond}
 use mathlib.Core.Option.{some}
 use native.Mathlib.Omega.{arith}
-use lib.ListN.{length, take, getD, length-append}
+use lib.ListN.{length, length-append}
 use lib.Seq.{append-snoc}
 use lib.Dec.{ltb, eqb}
 use borrow.Author.Tests.{eqb-true, eqb-false}
@@ -13,11 +13,10 @@ use Rattle.line.specs.Wire.{END, ESC, ESC-END, ESC-ESC, escape}
 use Rattle.line.specs.WireLaws.{escape-append, escape-plain}
 use Rattle.line.specs.Reader.{limit, wrongEscape, State, plain, escaped, skipping, emptied, decoded, inner, inside}
 use Rattle.line.specs.ReaderLaws.{cond-holds}
-use Rattle.line.specs.Pieces.{decode, NoEnd, written}
-use Rattle.line.specs.PieceLaws.{decode-inside}
+use Rattle.line.specs.Pieces.{NoEnd}
+use Rattle.line.specs.Reachable.{written}
 use Rattle.line.specs.Standing.{standing}
-use Rattle.line.specs.Places.{Places, wireAt, decodedAt, wireLength, onWire, behind, behindEsc}
-use Rattle.line.specs.PlaceLaws.{onWire-before, onWire-byte}
+use Rattle.line.specs.Places.{Places, wireAt, wireLength, behind, behindEsc}
 
 -- ---- the bytes of an open piece
 
@@ -87,19 +86,7 @@ pub standing-written : (p : List ℕ) (q : Places) → NoEnd p → standing (ins
 unfolding escape
 standing-written p q n e = reads-written p (inside emptied p) q (inside-reads [] emptied p refl n) e
 
--- so a packet's piece is the one escaped form of its bytes, and a place in that form is a place in the piece
-pub packet-escaped : (p h : List ℕ) → NoEnd p → decode p ≡ plain h → p ≡ escape h
+-- so what is read as whole bytes is their one escaped form
+pub plain-escaped : (p h : List ℕ) → NoEnd p → inside emptied p ≡ plain h → p ≡ escape h
 unfolding written
-packet-escaped p h n e =
-    let x : inside emptied p ≡ plain h = sym (decode-inside p) ∙ e in
-    standing-written p (behind h) n (ap standing x) ∙ ap written x
-
--- there its decoded byte d stands, or that byte's ESC, behind the wire bytes of those before it
-pub byte-in-piece : (p h : List ℕ) (d : ℕ) → NoEnd p → decode p ≡ plain h → d < length h
-    → (take (onWire h (decodedAt d) .0) p ≡ escape (take d h)) × (getD p (onWire h (decodedAt d) .0) 0 ≡ cond (eqb (getD h d 0) END) ESC (getD h d 0))
-byte-in-piece p h d n e x = rw (packet-escaped p h n e) (onWire-before h d, onWire-byte h d x)
-
--- and its END behind all of them
-pub end-in-piece : (p h : List ℕ) → NoEnd p → decode p ≡ plain h → behind h .wire ≡ wireAt (length p)
-unfolding behind wireLength
-end-in-piece p h n e = ap (λ (l : List ℕ). wireAt (length l)) (sym (packet-escaped p h n e))
+plain-escaped p h n e = standing-written p (behind h) n (ap standing e) ∙ ap written e

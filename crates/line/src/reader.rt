@@ -7,6 +7,7 @@ ghost use Rattle.line.specs.declared.Mode.the-variants.{Plain};
 ghost use Rattle.line.specs.Reader.{limit, read};
 ghost use Rattle.line.specs.Answers.{emptiedReading, taken, takenAs, answerOf, Answers};
 ghost use Rattle.line.specs.Step.{toldAt, Runs, Skips};
+use crate::Cursor;
 use crate::END;
 use crate::ESC;
 use crate::LIMIT;
@@ -14,7 +15,6 @@ use crate::Mode;
 use crate::PacketAnswer;
 use crate::PacketAt;
 use crate::PacketOutcome;
-use crate::Place;
 use crate::Reading;
 use crate::step::Action;
 
@@ -34,15 +34,15 @@ pub fn read(reading: Reading, wire: &[u8]) -> PacketAnswer
     ensures { λ r. ⌜ Answers (read (taken reading) (now (wire .entry))) r ⌝ }
 {
     let mut bytes = reading.bytes;
-    let told = read_in(&mut bytes, crate::step::place_of(reading), wire);
+    let told = read_in(&mut bytes, crate::step::cursor_of(reading), wire);
     answer_of(bytes, told)
 }
 
 // The same on a reading whose bytes stay where they lie: nothing is copied.
-pub fn read_in(bytes: &mut [u8; LIMIT], place: Place, wire: &[u8]) -> PacketAt
-    ensures { λ r. ⌜ Answers (read (takenAs (now (bytes .entry)) (place .count) (place .mode)) (now (wire .entry))) (answerOf (now (bytes .exit)) r) ⌝ }
+pub fn read_in(bytes: &mut [u8; LIMIT], cursor: Cursor, wire: &[u8]) -> PacketAt
+    ensures { λ r. ⌜ Answers (read (takenAs (now (bytes .entry)) (cursor .count) (cursor .mode)) (now (wire .entry))) (answerOf (now (bytes .exit)) r) ⌝ }
 {
-    let first = crate::step::taken_at(place);
+    let first = crate::step::taken_at(cursor);
     let mut count = first.count;
     let mut mode = first.mode;
     let mut i = 0;
@@ -64,10 +64,19 @@ pub fn read_in(bytes: &mut [u8; LIMIT], place: Place, wire: &[u8]) -> PacketAt
             Action::Keep(m) => {
                 mode = m;
             }
+            Action::Settle(fault) => {
+                mode = Mode::Skipping(crate::counting::fault_behind(fault, bytes, count));
+                count = 0;
+                i += skip_run(wire, i);
+            }
             Action::Skip(f) => {
                 count = 0;
                 mode = Mode::Skipping(f);
                 i += skip_run(wire, i);
+            }
+            Action::Refuse(fault) => {
+                let at = crate::counting::fault_behind(fault, bytes, count);
+                return told_at(i, PacketOutcome::Refused(at), 0, Mode::Plain);
             }
             Action::Give(outcome) => {
                 return told_at(i, outcome, 0, Mode::Plain);
@@ -83,9 +92,9 @@ fn answer_of(bytes: [u8; LIMIT], told: PacketAt) -> PacketAnswer
 {
     let used = told.used;
     let outcome = told.outcome;
-    let place = told.place;
-    let count = place.count;
-    let mode = place.mode;
+    let cursor = told.cursor;
+    let count = cursor.count;
+    let mode = cursor.mode;
     PacketAnswer {
         used: used,
         outcome: outcome,
@@ -100,7 +109,7 @@ fn told_at(used: usize, outcome: PacketOutcome, count: usize, mode: Mode) -> Pac
     PacketAt {
         used: used,
         outcome: outcome,
-        place: Place { count, mode },
+        cursor: Cursor { count, mode },
     }
 }
 

@@ -11,7 +11,7 @@ use Rattle.lister.specs.Lines.{frameLine, refusedLine, leftLine}
 -- the line of an outcome
 abbrev pub outcomeLine : Outcome → List ℕ
 outcomeLine (frame c d) = frameLine c (length d)
-outcomeLine (refused n) = refusedLine n
+outcomeLine (refused r) = refusedLine (r .number) (r .at)
 
 unfoldable pub lines : List Outcome → List ℕ
 lines [] = []

@@ -10,27 +10,23 @@ use native.Mathlib.Omega.{arith}
 use lib.ListN.{length, take, drop, getD, length-drop, length-append}
 use lib.Seq.{take-length, take-suc, take-add, length-take-le}
 use lib.Dec.{leb, eqb}
-use borrow.Author.Tests.{le-ltb}
 use Rattle.memory.specs.Wrote.{Wrote}
 use Rattle.memory.specs.WroteLaws.{none as wrote-none, then, kept, front-to, rest}
-use Rattle.line.specs.declared.Place.{Place}
-use Rattle.frame.specs.Line.{limit, last, Clear, Takes}
+use Rattle.line.specs.declared.Cursor.{Cursor}
+use Rattle.frame.specs.Line.{limit, last, Clear, Takes, taken-clear}
 use Rattle.frame.specs.declared.FrameOutcome.{FrameOutcome as Given}
 use Rattle.frame.specs.declared.FrameOutcome.the-variants as given
-use Rattle.frame.specs.declared.PacketRefusal.{PacketRefusal}
-use Rattle.frame.specs.declared.PacketRefusal.the-variants as causes
 use Rattle.frame.specs.declared.FrameAt.{FrameAt}
-use Rattle.frame.specs.Frame.{Outcome, refusal, head}
+use Rattle.frame.specs.Frame.{Outcome, number, head}
 use Rattle.frame.specs.Reader.{END, State, Scan, takenAs, also, outcomes, final, step, read}
 use Rattle.frame.specs.ReaderLaws.{outcomes-append, final-append, Tells, scan-tells, used-some}
 use Rattle.frame.specs.Answers.{told, Within, seen, answerOf, Answers}
 use Rattle.lister.specs.Lines.{refusedLine, leftLine, LINE}
-use Rattle.lister.specs.LinesLaws.{frameLine-short, refusedLine-short}
 use Rattle.text.specs.Appended.{Memory, appended, Leaves}
 use Rattle.text.specs.AppendedLaws.{leaves-wrote}
 use Rattle.lister.specs.declared.Listed.{Listed}
 use Rattle.lister.specs.Listing.{outcomeLine, lines, leftAfter}
-use Rattle.lister.specs.Lists.{givenLine, listedOf, Lists, LastLine}
+use Rattle.lister.specs.Lists.{givenLine, OutcomeLine, listedOf, Lists, LastLine}
 
 -- ---- lines
 
@@ -46,21 +42,7 @@ given-lines given.Nothing bs x e = refl
 given-lines (given.Frame c n) bs x e =
     let l : length (take n (drop head bs)) ≡ n = length-take-le n (drop head bs) (simp length-drop (omega arith)) in
     rw (append-nil, l)
-given-lines (given.Refused r) bs x e = append-nil (refusedLine (refusal r))
-
--- it is no longer than a line, whatever is told
-pub given-short : (g : Given) → Within g → length (givenLine g) ≤ LINE
-given-short given.Nothing x = omega arith
-given-short (given.Frame c n) x = frameLine-short c n (omega arith)
-given-short (given.Refused r) x = refusedLine-short (refusal r) (small r)
-  where
-    small : (r : PacketRefusal) → refusal r < 2 ^ 64
-    small causes.WrongEscape = omega arith
-    small causes.TooLong = omega arith
-    small causes.TooShort = omega arith
-    small causes.WrongProtocol = omega arith
-    small causes.WrongLength = omega arith
-    small causes.WrongCheck = omega arith
+given-lines (given.Refused r) bs x e = append-nil (refusedLine (number (r .cause)) (r .at))
 
 -- ---- one call more
 
@@ -68,11 +50,10 @@ given-short (given.Refused r) x = refusedLine-short (refusal r) (small r)
 pub record MoreUsed (s : State) (w : List ℕ) (n : ℕ) (bs : List ℕ) (t : FrameAt) : Type 0 where
   pub some : 0 < t .used
   pub within : n + t .used ≤ length w
-  pub state : takenAs bs (t .place .count) (t .place .mode) ≡ final step s (take (n + t .used) w)
-  pub held : t .place .count ≤ limit
-  pub clear : Clear (t .place .mode) (t .place .count)
+  pub state : takenAs bs (t .cursor .count) (t .cursor .mode) ≡ final step s (take (n + t .used) w)
+  pub held : t .cursor .count ≤ limit
+  pub clear : Clear (t .cursor .mode) (t .cursor .count)
   pub full : length bs ≡ limit
-  pub short : length (givenLine (t .outcome)) ≤ LINE
   pub lines : lines (outcomes step s (take (n + t .used) w)) ≡ lines (outcomes step s (take n w)) ++ givenLine (t .outcome)
 
 pub more-used : (s r : State) (w : List ℕ) (n : ℕ) (bs : List ℕ) (t : FrameAt) → n < length w → r ≡ final step s (take n w)
@@ -92,7 +73,6 @@ more-used s r w n bs t h e a =
       held = a .count-within;
       clear = a .clear;
       full = a .full;
-      short = given-short (t .outcome) (a .data-within);
       lines =
           ap (λ (z : List ℕ). lines (outcomes step s z)) c
           ∙ ap lines (outcomes-append step s (take n w) (take (t .used) v))
@@ -146,7 +126,7 @@ last-line-front h x = front-to (leaves-wrote (omega arith) (x .line)) (x .within
 -- ---- on the way through the bytes
 
 -- n bytes of w were used and k bytes of text were written
-pub record Going (s : State) (w before after bs : List ℕ) (p : Place) (n k : ℕ) : Type 0 where
+pub record Going (s : State) (w before after bs : List ℕ) (p : Cursor) (n k : ℕ) : Type 0 where
   pub within : n ≤ length w
   pub full : length bs ≡ limit
   pub state : takenAs bs (p .count) (p .mode) ≡ final step s (take n w)
@@ -156,10 +136,10 @@ pub record Going (s : State) (w before after bs : List ℕ) (p : Place) (n k : �
   pub fits : k ≤ length before
 
 -- the place q that a lent record is taken at has the state that the record is taken as
-pub takes-state : (p q : Place) (bs : List ℕ) → Takes p q → takenAs bs (q .count) (q .mode) ≡ takenAs bs (p .count) (p .mode)
-takes-state p q bs t = rw (le-ltb _ _ (t .within)) (t .state bs)
+pub takes-state : (p q : Cursor) (bs : List ℕ) → Takes p q → takenAs bs (q .count) (q .mode) ≡ takenAs bs (p .count) (p .mode)
+takes-state p q bs t = taken-clear bs (q .count) (q .mode) (t .within) (t .clear) ∙ t .state bs
 
-pub going-none : {p q : Place} (w l bs : List ℕ) → length bs ≡ limit → Takes p q → Going (takenAs bs (q .count) (q .mode)) w l l bs q 0 0
+pub going-none : {p q : Cursor} (w l bs : List ℕ) → length bs ≡ limit → Takes p q → Going (takenAs bs (q .count) (q .mode)) w l l bs q 0 0
 unfolding final outcomes lines
 going-none w l bs full t = record {
   within = omega arith;
@@ -171,11 +151,11 @@ going-none w l bs full t = record {
   fits = omega arith;
 }
 
-pub going-more : {s : State} {w before after more bs cs : List ℕ} {p : Place} {n k j : ℕ} {t : FrameAt} → Going s w before after bs p n k
-    → MoreUsed s w n cs t → k + LINE ≤ length after → Leaves (appended after k (givenLine (t .outcome))) more j → Going s w before more cs (t .place) (n + t .used) j
+pub going-more : {s : State} {w before after more bs cs : List ℕ} {p : Cursor} {n k j : ℕ} {t : FrameAt} → Going s w before after bs p n k
+    → MoreUsed s w n cs t → k + LINE ≤ length after → OutcomeLine (t .outcome) after k more j → Going s w before more cs (t .cursor) (n + t .used) j
 going-more {after = after} {k = k} {t = t} g x room y =
-    let h : k + length (givenLine (t .outcome)) ≤ length after = omega (arith, x .short) in
-    let z = leaves-wrote h y in
+    let h : k + length (givenLine (t .outcome)) ≤ length after = omega (arith, y .short) in
+    let z = leaves-wrote h (y .line) in
     record {
       within = x .within;
       full = x .full;
@@ -186,7 +166,7 @@ going-more {after = after} {k = k} {t = t} g x room y =
       fits = omega (arith, kept (g .wrote), z .place, h);
     }
 
-pub going-lists : {s : State} {w before after bs : List ℕ} {p : Place} {n k : ℕ} (left : ℕ) → Going s w before after bs p n k
+pub going-lists : {s : State} {w before after bs : List ℕ} {p : Cursor} {n k : ℕ} (left : ℕ) → Going s w before after bs p n k
     → (n ≡ length w) ⊎ (length before < k + LINE) → Lists s left w before after (listedOf bs p left w n k)
 going-lists left g x = record {
   within = g .within;

@@ -4,25 +4,30 @@ use mathlib.Core.Path.{_≡_}
 use mathlib.Core.List.{List, [], _++_}
 use mathlib.Core.Logic.{_⊎_}
 use lib.ListN.{length, take, drop}
-use Rattle.line.specs.declared.Place.{Place}
+use Rattle.line.specs.declared.Cursor.{Cursor}
 use Rattle.frame.specs.Line.{limit, Clear}
 use Rattle.frame.specs.declared.FrameOutcome.{FrameOutcome as Given}
 use Rattle.frame.specs.declared.FrameOutcome.the-variants as given
-use Rattle.frame.specs.Frame.{refusal}
+use Rattle.frame.specs.Frame.{number}
 use Rattle.frame.specs.Reader.{State, taken, outcomes, final, step}
 use Rattle.lister.specs.Lines.{frameLine, refusedLine, leftLine, LINE}
 use Rattle.text.specs.Appended.{appended, Leaves}
 use Rattle.lister.specs.declared.Listed.{Listed}
 use Rattle.lister.specs.Listing.{lines, leftAfter, capped}
 
--- `outcome_line`: the line of what a call of the frame layer tells, if it tells an outcome
+-- the line of what a call of the frame layer tells, if it tells an outcome
 abbrev pub givenLine : Given → List ℕ
 givenLine given.Nothing = []
 givenLine (given.Frame c n) = frameLine c n
-givenLine (given.Refused r) = refusedLine (refusal r)
+givenLine (given.Refused r) = refusedLine (number (r .cause)) (r .at)
+
+-- `outcome_line`: it is appended, and is no longer than any line
+pub record OutcomeLine (o : Given) (before : List ℕ) (at : ℕ) (after : List ℕ) (next : ℕ) : Type 0 where
+  pub line : Leaves (appended before at (givenLine o)) after next
+  pub short : length (givenLine o) ≤ LINE
 
 -- `answer`: an answer from its parts
-abbrev pub listedOf : List ℕ → Place → ℕ → List ℕ → ℕ → ℕ → Listed
+abbrev pub listedOf : List ℕ → Cursor → ℕ → List ℕ → ℕ → ℕ → Listed
 listedOf bs p k w at n = record {
   used = at;
   written = n;

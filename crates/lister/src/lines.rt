@@ -1,17 +1,16 @@
 // The lines of the listing, appended to lent memory at a place.
 // A line is written whole or not at all, and is the definition's to the byte: specs/Lines.antt.
-ghost use Prim.Native.Nat.{_+_, _≤_};
-ghost use mathlib.Core.List.{_++_};
-ghost use lib.ListN.{length};
-ghost use Rattle.text.specs.Text.{ascii, decimal};
+ghost use mathlib.Core.Path.{_≡_};
+ghost use mathlib.Core.Bool.{true};
 ghost use Rattle.text.specs.Appended.{appended, Leaves};
-ghost use Rattle.lister.specs.Lines.{frameLine, refusedLine, leftLine};
+ghost use Rattle.lister.specs.Lines.{frameLine, refusedLine, leftLine, isShort};
+use line::Places;
 use text::DATA;
 use text::LINE_END;
 use text::REFUSED;
 
 // No line is longer.
-pub const LINE: usize = 40;
+pub const LINE: usize = 64;
 
 const FRAME: [u8; 6] = *b"frame ";
 
@@ -33,30 +32,78 @@ pub(crate) fn frame_line(out: &mut [u8], at: usize, command: u16, len: usize) ->
     text::append(out, end, &LINE_END)
 }
 
-// "refused N": a refusal's number.
-pub(crate) fn refused_line(out: &mut [u8], at: usize, number: u8) -> usize
-    ensures { λ r. ⌜ Leaves (appended (now (out .entry)) at (refusedLine number)) (now (out .exit)) r ⌝ }
+// "refused N at W D": a refusal's number, and where its packet broke.
+pub(crate) fn refused_line(out: &mut [u8], at: usize, number: u8, places: Places) -> usize
+    ensures { λ r. ⌜ Leaves (appended (now (out .entry)) at (refusedLine number places)) (now (out .exit)) r ⌝ }
 {
-    number_line(out, at, &REFUSED, number as u64)
+    if is_short(number, places) {
+        let line = short_line(number, places);
+        return text::append(out, at, &line);
+    }
+    long_line(out, at, number, places)
+}
+
+// Whether each number is one digit: so it is in all pieces of up to nine wire bytes, of which a capture may have many.
+fn is_short(number: u8, places: Places) -> bool
+    ensures { λ r. ⌜ r ≡ isShort number places ⌝ }
+{
+    let wire = places.wire;
+    let decoded = places.decoded;
+    if 9 < number {
+        return false;
+    }
+    if 9 < wire.0 {
+        return false;
+    }
+    decoded.0 <= 9
+}
+
+// Their line, which is written in one piece.
+fn short_line(number: u8, places: Places) -> [u8; 17]
+    requires { ⌜ isShort number places ≡ true ⌝ }
+    ensures { λ r. ⌜ r ≡ refusedLine number places ⌝ }
+{
+    let wire = places.wire;
+    let decoded = places.decoded;
+    [
+        b'r',
+        b'e',
+        b'f',
+        b'u',
+        b's',
+        b'e',
+        b'd',
+        b' ',
+        b'0' + number,
+        b' ',
+        b'a',
+        b't',
+        b' ',
+        b'0' + (wire.0 as u8),
+        b' ',
+        b'0' + (decoded.0 as u8),
+        b'\n',
+    ]
+}
+
+// The line of any numbers, word by word.
+fn long_line(out: &mut [u8], at: usize, number: u8, places: Places) -> usize
+    ensures { λ r. ⌜ Leaves (appended (now (out .entry)) at (refusedLine number places)) (now (out .exit)) r ⌝ }
+{
+    let refusal = number as u64;
+    let count = text::width(refusal) + text::places_width(places);
+    if text::room(out.len(), at) < 9 + count {
+        return at;
+    }
+    let digits = text::append(out, at, &REFUSED);
+    let word = text::append_decimal(out, digits, refusal);
+    let last = text::append_places(out, word, places);
+    text::append(out, last, &LINE_END)
 }
 
 // "left N": how many bytes are left.
 pub(crate) fn left_line(out: &mut [u8], at: usize, left: u64) -> usize
     ensures { λ r. ⌜ Leaves (appended (now (out .entry)) at (leftLine left)) (now (out .exit)) r ⌝ }
 {
-    number_line(out, at, &LEFT, left)
-}
-
-// A short word, a number and the line's end.
-fn number_line(out: &mut [u8], at: usize, word: &[u8], number: u64) -> usize
-    requires { ⌜ length (now word) ≤ 8 ⌝ }
-    ensures { λ r. ⌜ Leaves (appended (now (out .entry)) at (now (word .entry) ++ decimal number ++ ascii "\n")) (now (out .exit)) r ⌝ }
-{
-    let count = text::width(number);
-    if text::room(out.len(), at) < word.len() + count + 1 {
-        return at;
-    }
-    let digits = text::append(out, at, word);
-    let last = text::append_decimal(out, digits, number);
-    text::append(out, last, &LINE_END)
+    text::append_numbered(out, at, &LEFT, left, &LINE_END)
 }

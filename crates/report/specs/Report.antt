@@ -6,10 +6,16 @@ use lib.ListN.{drop}
 use lib.Dec.{eqb}
 use Rattle.text.specs.Text.{ascii, decimal, hex4}
 use Rattle.text.specs.Bytes.{bytesWord}
+use Rattle.text.specs.Places.{placesWord}
+use Rattle.line.specs.declared.Places.{Places}
 
 -- room for a line up to its last number
 abbrev pub headSize : ℕ
 headSize = 42
+
+-- room for two places and the word behind them
+abbrev pub placedSize : ℕ
+placedSize = 52
 
 -- a line that no call is made of: its number, and that of its first word that cannot be taken, or that it is too long
 unfoldable pub badLine : ℕ → ℕ → List ℕ
@@ -35,7 +41,7 @@ refusedLine number spilled = ascii "refused " ++ decimal number ++ lineEnd spill
 unfoldable pub finishedLine : ℕ → List ℕ → Bool → List ℕ
 finishedLine line reply spilled = ascii "finished " ++ decimal line ++ ascii " reply " ++ bytesWord reply ++ lineEnd spilled
 
--- a feed: how many bytes it used, its outcome and the reply
+-- a feed: how many bytes it used, its outcome and the reply; of a refused packet also where it broke
 unfoldable pub noneLine : ℕ → List ℕ → Bool → List ℕ
 noneLine used reply spilled = ascii "used " ++ decimal used ++ ascii " none reply " ++ bytesWord reply ++ lineEnd spilled
 
@@ -43,9 +49,9 @@ unfoldable pub frameLine : ℕ → ℕ → ℕ → List ℕ → Bool → List �
 frameLine used command len reply spilled =
     ascii "used " ++ decimal used ++ ascii " frame " ++ hex4 command ++ ascii " data " ++ decimal len ++ ascii " reply " ++ bytesWord reply ++ lineEnd spilled
 
-unfoldable pub packetLine : ℕ → ℕ → List ℕ → Bool → List ℕ
-packetLine used number reply spilled =
-    ascii "used " ++ decimal used ++ ascii " packet " ++ decimal number ++ ascii " reply " ++ bytesWord reply ++ lineEnd spilled
+unfoldable pub packetLine : ℕ → ℕ → Places → List ℕ → Bool → List ℕ
+packetLine used number places reply spilled =
+    ascii "used " ++ decimal used ++ ascii " packet " ++ decimal number ++ placesWord places ++ ascii " reply " ++ bytesWord reply ++ lineEnd spilled
 
 -- some byte is not the filler
 unfoldable pub hasOther : ℕ → List ℕ → Bool

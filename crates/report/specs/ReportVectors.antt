@@ -6,7 +6,9 @@ use lib.ListN.{length}
 use lib.Dec.{leb}
 use Rattle.text.specs.Text.{ascii, digit, decimalIn, decimal}
 use Rattle.text.specs.Bytes.{hexPairs, bytesWord}
-use Rattle.report.specs.Report.{badLine, longLine, doneLine, lineEnd, refusedLine, finishedLine, noneLine, frameLine, packetLine, hasOther, hasSpilled, headSize}
+use Rattle.text.specs.Places.{placesWord}
+use Rattle.line.specs.Places.{placesAt}
+use Rattle.report.specs.Report.{badLine, longLine, doneLine, lineEnd, refusedLine, finishedLine, noneLine, frameLine, packetLine, hasOther, hasSpilled, headSize, placedSize}
 
 bad : badLine 18446744073709551615 6 ≡ ascii "bad line 18446744073709551615 word 6\n"
 unfolding ascii digit decimalIn decimal badLine
@@ -54,12 +56,13 @@ frame-spilled : frameLine 7 0x02AB 250 [] true ≡ ascii "used 7 frame 02AB data
 unfolding ascii digit decimalIn decimal hexPairs bytesWord lineEnd frameLine
 frame-spilled = refl
 
-packet-check : packetLine 7 6 (0xC0 ∷ 0x00 ∷ 0x04 ∷ 0x00 ∷ 0x00 ∷ 0x02 ∷ 0x06 ∷ 0xC0 ∷ []) false ≡ ascii "used 7 packet 6 reply C0000400000206C0\n"
-unfolding ascii digit decimalIn decimal hexPairs bytesWord lineEnd packetLine
+-- the check byte of document 01's P11; a wrong escape behind 255 escaped bytes
+packet-check : packetLine 7 6 (placesAt 4 4) (0xC0 ∷ 0x00 ∷ 0x04 ∷ 0x00 ∷ 0x00 ∷ 0x02 ∷ 0x06 ∷ 0xC0 ∷ []) false ≡ ascii "used 7 packet 6 at 4 4 reply C0000400000206C0\n"
+unfolding ascii digit decimalIn decimal hexPairs bytesWord placesWord lineEnd packetLine
 packet-check = refl
 
-packet-spilled : packetLine 2 1 (0x0F ∷ 0xF0 ∷ []) true ≡ ascii "used 2 packet 1 reply 0FF0 spilled\n"
-unfolding ascii digit decimalIn decimal hexPairs bytesWord lineEnd packetLine
+packet-spilled : packetLine 2 1 (placesAt 511 255) (0x0F ∷ 0xF0 ∷ []) true ≡ ascii "used 2 packet 1 at 511 255 reply 0FF0 spilled\n"
+unfolding ascii digit decimalIn decimal hexPairs bytesWord placesWord lineEnd packetLine
 packet-spilled = refl
 
 -- a byte before the place counts for nothing, one at it does, and the last one does
@@ -83,3 +86,8 @@ spilled-past = refl
 head-longest : leb (length (ascii "used 18446744073709551615 frame FFFF data ")) headSize ≡ true
 unfolding ascii
 head-longest = refl
+
+-- the longest word behind it
+placed-longest : leb (length (ascii " at 18446744073709551615 18446744073709551615 reply ")) placedSize ≡ true
+unfolding ascii
+placed-longest = refl

@@ -7,6 +7,8 @@ use Rattle.nodes.specs.Table.{bit}
 use Rattle.sessions.specs.Sessions.{targetCount}
 use Rattle.text.specs.Text.{ascii, decimal, hex4}
 use Rattle.text.specs.Bytes.{bytesWord}
+use Rattle.text.specs.Places.{placesWord}
+use Rattle.line.specs.declared.Fault.{Fault}
 use Rattle.line.specs.declared.Fault.the-variants as fault
 use Rattle.line.specs.declared.Mode.{Mode}
 use Rattle.line.specs.declared.Mode.the-variants as mode
@@ -45,15 +47,24 @@ unfoldable pub nodeLine : ℕ → List ℕ → List ℕ
 nodeLine node fields = ascii "node " ++ decimal node ++ ascii " " ++ bytesWord fields ++ ascii "\n"
 
 -- how a reading stands; one that skips tells the refusal that is due at the END
+unfoldable pub skipWord : Fault → List ℕ
+skipWord fault.WrongEscape = ascii "skip1"
+skipWord fault.TooLong = ascii "skip2"
+
 unfoldable pub modeWord : Mode → List ℕ
 modeWord mode.Plain = ascii "plain"
 modeWord mode.Escaped = ascii "escaped"
-modeWord (mode.Skipping fault.WrongEscape) = ascii "skip1"
-modeWord (mode.Skipping fault.TooLong) = ascii "skip2"
+modeWord (mode.Skipping f) = skipWord (f .fault)
+
+-- and where its packet broke
+unfoldable pub modePlaces : Mode → List ℕ
+modePlaces mode.Plain = []
+modePlaces mode.Escaped = []
+modePlaces (mode.Skipping f) = placesWord (f .at)
 
 -- a line's reading: how it stands, and the bytes held
 unfoldable pub readingLine : ℕ → Mode → List ℕ → List ℕ
-readingLine line m held = ascii "line " ++ decimal line ++ (ascii " " ++ modeWord m ++ ascii " ") ++ bytesWord held ++ ascii "\n"
+readingLine line m held = ascii "line " ++ decimal line ++ (ascii " " ++ modeWord m ++ ascii " ") ++ bytesWord held ++ (modePlaces m ++ ascii "\n")
 
 unfoldable pub endLine : List ℕ
 endLine = ascii "end\n"

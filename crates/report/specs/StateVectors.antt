@@ -8,7 +8,9 @@ use Rattle.nodes.specs.Table.{bit}
 use Rattle.sessions.specs.Sessions.{markBytes, withBit}
 use Rattle.text.specs.Text.{ascii, digit, decimalIn, decimal}
 use Rattle.text.specs.Bytes.{hexPairs, bytesWord}
-use Rattle.report.specs.State.{flag, loginLine, nodeWord, nodesBelow, slotLine, nodeLine, modeWord, readingLine, endLine}
+use Rattle.text.specs.Places.{placesWord}
+use Rattle.report.specs.State.{flag, loginLine, nodeWord, nodesBelow, slotLine, nodeLine, skipWord, modeWord, modePlaces, readingLine, endLine}
+use Rattle.line.specs.Places.{placesAt}
 use Rattle.line.specs.declared.Fault.the-variants as fault
 use Rattle.line.specs.declared.Mode.the-variants as mode
 
@@ -37,19 +39,20 @@ unfolding ascii digit decimalIn decimal hexPairs bytesWord nodeLine
 node-last = refl
 
 reading-plain : readingLine 0 mode.Plain (0x00 ∷ 0x03 ∷ 0xFE ∷ []) ≡ ascii "line 0 plain 0003FE\n"
-unfolding ascii digit decimalIn decimal hexPairs bytesWord modeWord readingLine
+unfolding ascii digit decimalIn decimal hexPairs bytesWord modeWord modePlaces readingLine
 reading-plain = refl
 
 reading-escaped : readingLine 1 mode.Escaped [] ≡ ascii "line 1 escaped -\n"
-unfolding ascii digit decimalIn decimal hexPairs bytesWord modeWord readingLine
+unfolding ascii digit decimalIn decimal hexPairs bytesWord modeWord modePlaces readingLine
 reading-escaped = refl
 
-reading-wrong-escape : readingLine 2 (mode.Skipping fault.WrongEscape) [] ≡ ascii "line 2 skip1 -\n"
-unfolding ascii digit decimalIn decimal hexPairs bytesWord modeWord readingLine
+-- a settled piece: the byte after the ESC, and the 256th byte behind 100 escaped ones
+reading-wrong-escape : readingLine 2 (mode.Skipping (record { fault = fault.WrongEscape; at = placesAt 1 0 })) [] ≡ ascii "line 2 skip1 - at 1 0\n"
+unfolding ascii digit decimalIn decimal hexPairs bytesWord placesWord skipWord modeWord modePlaces readingLine
 reading-wrong-escape = refl
 
-reading-too-long : readingLine 3 (mode.Skipping fault.TooLong) [] ≡ ascii "line 3 skip2 -\n"
-unfolding ascii digit decimalIn decimal hexPairs bytesWord modeWord readingLine
+reading-too-long : readingLine 3 (mode.Skipping (record { fault = fault.TooLong; at = placesAt 355 255 })) [] ≡ ascii "line 3 skip2 - at 355 255\n"
+unfolding ascii digit decimalIn decimal hexPairs bytesWord placesWord skipWord modeWord modePlaces readingLine
 reading-too-long = refl
 
 end : endLine ≡ ascii "end\n"

@@ -1,6 +1,7 @@
 // The lines that a replay writes: what its calls answer, and what `show` and `table` tell, each appended to lent memory at a place.
 // A line is written whole or not at all, and is the definition's to the byte (specs/Report.antt, specs/State.antt, specs/Entry.antt).
-// It stands on the pieces of a line (`text`), and on `line` and `sessions` for a reading's modes and how many nodes a session may hold.
+// It stands on the pieces of a line (`text`), and on `line` and `sessions` for a reading's modes, a byte's places and how many nodes a session may
+// hold.
 mod bad;
 mod calls;
 mod entries;
@@ -35,3 +36,6 @@ const USED: [u8; 5] = *b"used ";
 const REPLY: [u8; 7] = *b" reply ";
 
 const SPILLED: [u8; 9] = *b" spilled\n";
+
+// No two places and the word behind them are longer.
+const PLACED: usize = 52;

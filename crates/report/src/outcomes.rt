@@ -2,8 +2,10 @@
 // A line is written whole or not at all, and is the definition's to the byte: specs/Report.antt.
 ghost use Rattle.text.specs.Appended.{appended, Leaves};
 ghost use Rattle.report.specs.Report.{frameLine, packetLine};
+use crate::PLACED;
 use crate::REPLY;
 use crate::USED;
+use line::Places;
 use text::DATA;
 use text::PACKET;
 
@@ -31,25 +33,29 @@ pub fn frame_line(
     crate::replies::reply_line(out, at, &head[0..end], len as u64, &REPLY, reply, spilled)
 }
 
-// "used U packet R reply BYTES": the number of a packet's refusal.
+// "used U packet R at W D reply BYTES": the number of a packet's refusal, and where the packet broke.
 pub fn packet_line(
     out: &mut [u8],
     at: usize,
     used: usize,
     number: u8,
+    places: Places,
     reply: &[u8],
     spilled: bool,
 ) -> usize
-    ensures { λ r. ⌜ Leaves (appended (now (out .entry)) at (packetLine used number (now (reply .entry)) spilled)) (now (out .exit)) r ⌝ }
+    ensures { λ r. ⌜ Leaves (appended (now (out .entry)) at (packetLine used number places (now (reply .entry)) spilled)) (now (out .exit)) r ⌝ }
 {
     let mut head = [0; HEAD];
     let end = text::append_numbered(&mut head, 0, &USED, used as u64, &PACKET);
+    let mut behind = [0; PLACED];
+    let word = text::append_places(&mut behind, 0, places);
+    let last = text::append(&mut behind, word, &REPLY);
     crate::replies::reply_line(
         out,
         at,
         &head[0..end],
         number as u64,
-        &REPLY,
+        &behind[0..last],
         reply,
         spilled,
     )

@@ -5,7 +5,7 @@ use mathlib.Core.List.{List}
 use mathlib.Core.Bool.{cond}
 use lib.Dec.{eqb}
 use lib.ListN.{length, take, drop, set, getD}
-use Rattle.line.specs.declared.Place.{Place}
+use Rattle.line.specs.declared.Cursor.{Cursor}
 use Rattle.line.specs.declared.Reading.{Reading}
 use Rattle.frame.specs.Frame.{head}
 use Rattle.frame.specs.declared.FrameAt.{FrameAt}
@@ -28,20 +28,20 @@ use Rattle.rules.specs.Hub.{Response, passwordSize, withPassword, withSlots}
 -- ---- the call
 
 -- the record of some bytes at a place
-abbrev pub readingAt : List ℕ → Place → Reading
+abbrev pub readingAt : List ℕ → Cursor → Reading
 readingAt bs p = record { bytes = bs; count = p .count; mode = p .mode }
 
 -- `refused`: hub and place as they were lent
-abbrev pub refusedFeed : Hub → Place → CallRefusal → FedAt
-refusedFeed h p why = record { answer = feed.Refused why; hub = h; place = p }
+abbrev pub refusedFeed : Hub → Cursor → CallRefusal → FedAt
+refusedFeed h p why = record { answer = feed.Refused why; hub = h; cursor = p }
 
 -- `told`: what was read, with the reply's length and the parts of the hub that is left
 abbrev pub toldFeed : FrameAt → ℕ → Hub → FedAt
-toldFeed a n h = record { answer = feed.Told (a .used) (a .outcome) n; hub = h; place = a .place }
+toldFeed a n h = record { answer = feed.Told (a .used) (a .outcome) n; hub = h; cursor = a .cursor }
 
 -- `fed_of`: an answer with the record's bytes
 abbrev pub fedOf : List ℕ → FedAt → FedByValue
-fedOf bs f = record { answer = f .answer; hub = f .hub; reading = readingAt bs (f .place) }
+fedOf bs f = record { answer = f .answer; hub = f .hub; reading = readingAt bs (f .cursor) }
 
 -- ---- what is done
 

@@ -13,7 +13,7 @@ ghost use Rattle.requests.specs.Answers.{readingAt, refusedFeed, toldFee
 use frame::FrameAt;
 use frame::FrameOutcome;
 use frame::Written;
-use line::Place;
+use line::Cursor;
 use line::Reading;
 use replies::Reply;
 use rules::CallRefusal;
@@ -40,7 +40,7 @@ pub fn call(
         hub,
         table,
         &mut held,
-        Place { count, mode },
+        Cursor { count, mode },
         line,
         bytes,
         room,
@@ -53,20 +53,20 @@ pub fn call_in(
     hub: Hub,
     table: &mut [u8],
     held: &mut [u8; line::LIMIT],
-    place: Place,
+    cursor: Cursor,
     line: u8,
     bytes: &[u8],
     room: &mut [u8],
 ) -> FedAt
-    ensures { λ r. ⌜ Feeds hub (now (table .entry)) (readingAt (now (held .entry)) place) line (now (bytes .entry)) (now (room .entry)) (r .answer) (r .hub) (now (table .exit)) (readingAt (now (held .exit)) (r .place)) (now (room .exit)) ⌝ }
+    ensures { λ r. ⌜ Feeds hub (now (table .entry)) (readingAt (now (held .entry)) cursor) line (now (bytes .entry)) (now (room .entry)) (r .answer) (r .hub) (now (table .exit)) (readingAt (now (held .exit)) (r .cursor)) (now (room .exit)) ⌝ }
 {
     if table.len() != nodes::TABLE {
-        return refused(hub, place, CallRefusal::WrongTable);
+        return refused(hub, cursor, CallRefusal::WrongTable);
     }
     if rules::LINES <= line as usize {
-        return refused(hub, place, CallRefusal::WrongLine);
+        return refused(hub, cursor, CallRefusal::WrongLine);
     }
-    serve(hub, table, held, place, line, bytes, room)
+    serve(hub, table, held, cursor, line, bytes, room)
 }
 
 // A feed with the right table, on one of the lines.
@@ -74,16 +74,16 @@ fn serve(
     hub: Hub,
     table: &mut [u8],
     held: &mut [u8; line::LIMIT],
-    place: Place,
+    cursor: Cursor,
     line: u8,
     bytes: &[u8],
     room: &mut [u8],
 ) -> FedAt
     requires { ⌜ (length (now table) ≡ tableSize) × (line < lineCount) ⌝ }
-    ensures { λ r. ⌜ Feeds hub (now (table .entry)) (readingAt (now (held .entry)) place) line (now (bytes .entry)) (now (room .entry)) (r .answer) (r .hub) (now (table .exit)) (readingAt (now (held .exit)) (r .place)) (now (room .exit)) ⌝ }
+    ensures { λ r. ⌜ Feeds hub (now (table .entry)) (readingAt (now (held .entry)) cursor) line (now (bytes .entry)) (now (room .entry)) (r .answer) (r .hub) (now (table .exit)) (readingAt (now (held .exit)) (r .cursor)) (now (room .exit)) ⌝ }
 {
     let mut tried = *held;
-    let read = frame::read_in(&mut tried, place, bytes);
+    let read = frame::read_in(&mut tried, cursor, bytes);
     let outcome = read.outcome;
     let mut password = hub.password;
     let mut logins = hub.logins;
@@ -104,8 +104,8 @@ fn serve(
             *held = tried;
             told(read, len, password, logins, slots)
         }
-        Written::ShortRoom => refused(hub, place, CallRefusal::ShortRoom),
-        Written::LongData => refused(hub, place, CallRefusal::ShortRoom),
+        Written::ShortRoom => refused(hub, cursor, CallRefusal::ShortRoom),
+        Written::LongData => refused(hub, cursor, CallRefusal::ShortRoom),
     }
 }
 
@@ -121,7 +121,7 @@ fn told(
 {
     let used = read.used;
     let outcome = read.outcome;
-    let place = read.place;
+    let cursor = read.cursor;
     FedAt {
         answer: FeedAnswer::Told { used, outcome, len },
         hub: Hub {
@@ -129,17 +129,17 @@ fn told(
             logins,
             slots,
         },
-        place: place,
+        cursor: cursor,
     }
 }
 
-fn refused(hub: Hub, place: Place, refusal: CallRefusal) -> FedAt
-    ensures { λ r. ⌜ r ≡ refusedFeed hub place refusal ⌝ }
+fn refused(hub: Hub, cursor: Cursor, refusal: CallRefusal) -> FedAt
+    ensures { λ r. ⌜ r ≡ refusedFeed hub cursor refusal ⌝ }
 {
     FedAt {
         answer: FeedAnswer::Refused(refusal),
         hub: hub,
-        place: place,
+        cursor: cursor,
     }
 }
 
@@ -149,9 +149,9 @@ fn fed_of(bytes: [u8; line::LIMIT], fed: FedAt) -> FedByValue
 {
     let answer = fed.answer;
     let hub = fed.hub;
-    let place = fed.place;
-    let count = place.count;
-    let mode = place.mode;
+    let cursor = fed.cursor;
+    let count = cursor.count;
+    let mode = cursor.mode;
     FedByValue {
         answer: answer,
         hub: hub,

@@ -3,8 +3,8 @@
 // What the rounds promise is what the calls promise, one after another: specs/Rounds.antt. It stands on the calls of `hub`.
 ghost use mathlib.Core.Path.{_≡_};
 ghost use Rattle.rounds.specs.Rounds.{fedLength, finishedLength, Fed, Sent, Makes};
+use line::Cursor;
 use line::Mode;
-use line::Place;
 use rules::FeedAnswer;
 use rules::FinishAnswer;
 
@@ -26,22 +26,22 @@ pub extern "C" fn rounds_feed(
         hub::first(),
         table,
         &mut held,
-        Place { count, mode },
+        Cursor { count, mode },
         0,
         login,
         room,
     );
     let mut kept = entered.hub;
-    let mut place = entered.place;
+    let mut cursor = entered.cursor;
     let mut len = 0;
     let mut left = rounds;
     while 0 < left {
-        let fed = hub::feed_in(kept, table, &mut held, place, 0, bytes, room);
+        let fed = hub::feed_in(kept, table, &mut held, cursor, 0, bytes, room);
         let next = fed.hub;
-        let after = fed.place;
+        let after = fed.cursor;
         let answer = fed.answer;
         kept = next;
-        place = after;
+        cursor = after;
         len = fed_len(answer);
         left -= 1;
     }
@@ -67,19 +67,19 @@ pub extern "C" fn rounds_finish(
         hub::first(),
         table,
         &mut held,
-        Place { count, mode },
+        Cursor { count, mode },
         0,
         login,
         room,
     );
     let mut kept = entered.hub;
-    let mut place = entered.place;
+    let mut cursor = entered.cursor;
     let mut len = 0;
     let mut left = rounds;
     while 0 < left {
-        let sent = hub::feed_in(kept, table, &mut held, place, 0, bytes, room);
-        let after = sent.place;
-        place = after;
+        let sent = hub::feed_in(kept, table, &mut held, cursor, 0, bytes, room);
+        let after = sent.cursor;
+        cursor = after;
         let finished = hub::finish(sent.hub, session, room);
         let next = finished.hub;
         let answer = finished.answer;

@@ -72,7 +72,8 @@ answerOf (feed.Refused r) bytes = feeds.refused (number r)
 abbrev pub fedOf : FeedAnswer → Hub → List ℕ → Reading → List ℕ → Got rules.hub
 fedOf a h t e room = record { hub = h; table = t; reading = e; answer = answerOf a (e .bytes); room = room }
 
--- a record that a call gives back has its 255 places, claims no more bytes, and none while it skips; one of a refused call lies as it was lent
+-- a record that a call gives back has its 255 places, claims no more bytes, and none while it skips, which it does at places that bytes leave;
+-- one of a refused call lies as it was lent
 abbrev pub Bounded : Reading → Type 0
 Bounded r = (length (r .bytes) ≡ limit) × (r .count ≤ limit) × Clear (r .mode) (r .count)
 

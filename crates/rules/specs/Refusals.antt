@@ -5,7 +5,7 @@ use mathlib.Core.List.{List, [], _∷_, _++_}
 use mathlib.Core.Option.{Option, none, some, Option·none-ne-some}
 use mathlib.Core.Bool.{Bool, true, false, not}
 use native.Mathlib.Omega.{arith}
-use Rattle.frame.specs.Frame.{Outcome, refused, wire, escape, framed, body}
+use Rattle.frame.specs.Frame.{Refusal, Outcome, refused, wire, escape, framed, body}
 use Rattle.frame.specs.Xor as xor
 use Rattle.line.specs.declared.Reading.{Reading}
 use Rattle.frame.specs.Reader.{State, emptied, read, taken}
@@ -70,7 +70,7 @@ finish-kept h y space a h′ left n x e =
     (x .hub ∙ ap (λ (c : Finished). c .hub) f, x .room ∙ ap (λ (c : Finished). c .reply ++ drop (length (c .reply)) space) f)
 
 -- a refused packet brings the error frame with byte 2, and leaves hub and table
-pub serve-refused : (h : Hub) (t : List ℕ) (l n : ℕ) → serve h t l (refused n) ≡ record { hub = h; table = t; reply = bytesOf (error frameError ∷ []) }
+pub serve-refused : (h : Hub) (t : List ℕ) (l : ℕ) (n : Refusal) → serve h t l (refused n) ≡ record { hub = h; table = t; reply = bytesOf (error frameError ∷ []) }
 unfolding serve respond
 serve-refused h t l n = refl
 
@@ -175,6 +175,6 @@ module _ (h : Hub) (t : List ℕ) (s : State) (l : ℕ) (bytes : List ℕ) (room
       go false b c x y z e = let k : _≡_ {A = ℕ} 7 9 = cc in absurd (omega arith)
 
   -- a refused packet's error reply has 8 bytes
-  pub error-room : (n : ℕ) → length t ≡ tableSize → l ≤ 3 → read s bytes .outcome ≡ some (refused n) → feedRefusal h t s l bytes room ≡ refuseIf (ltb room 8) 9 none
+  pub error-room : (n : Refusal) → length t ≡ tableSize → l ≤ 3 → read s bytes .outcome ≡ some (refused n) → feedRefusal h t s l bytes room ≡ refuseIf (ltb room 8) 9 none
   unfolding respond bytesOf wire escape framed body xor.xorAll xor._⊕_
   error-room n e k o = rw (eq-eqb (length t) tableSize e, lt-ltb l lineCount (omega arith), o)

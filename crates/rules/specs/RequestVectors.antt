@@ -6,7 +6,7 @@ use mathlib.Core.Bool.{true, false}
 use mathlib.Core.Option.{Option, none, some}
 use lib.ListN.{length, set, replicate}
 use Rattle.frame.specs.Line as line
-use Rattle.frame.specs.Frame.{Outcome, frame, refused, wire, escape, framed, body, judge}
+use Rattle.frame.specs.Frame.{placesAt, Outcome, frame, refused, wire, escape, framed, body, judge}
 use Rattle.frame.specs.Reader.{plain, emptied, onward, scan, step, verdict, inner}
 use Rattle.frame.specs.Xor as xor
 use Rattle.directory.specs.Directory.{directory}
@@ -113,7 +113,7 @@ error e = wire 0x0000 (e ∷ [])
 -- the order of judging: a refused packet, an unknown command, a wrong length, no login, a command that is not served
 abbrev errors : List Row
 errors =
-    answers (loggedOut moving) (refused 6) (error 2)
+    answers (loggedOut moving) (refused (record { number = 6; at = placesAt 4 4 })) (error 2)
     ∷ answers (loggedOut moving) (frame 0x020A []) (error 1)
     ∷ answers (loggedOut moving) (frame 0x0200 []) (error 2)
     ∷ answers (loggedOut moving) (frame 0x0200 (3 ∷ [])) (error 12)

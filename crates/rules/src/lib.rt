@@ -5,7 +5,7 @@ mod logins;
 mod refusals;
 
 use frame::FrameOutcome;
-use line::Place;
+use line::Cursor;
 use line::Reading;
 pub use logins::is_logged_in;
 pub use refusals::number;
@@ -82,7 +82,7 @@ pub struct FedByValue {
 pub struct FedAt {
     pub answer: FeedAnswer,
     pub hub: Hub,
-    pub place: Place,
+    pub cursor: Cursor,
 }
 
 // What close and feed on a lent record give back beside it.

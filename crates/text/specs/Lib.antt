@@ -9,3 +9,6 @@ pub mod NumberedLaws
 pub mod Bytes
 pub mod BytesLaws
 pub mod BytesVectors
+pub mod Places
+pub mod PlacesLaws
+pub mod PlacesVectors

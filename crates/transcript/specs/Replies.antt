@@ -3,7 +3,7 @@ use Prim.Native.Nat.{ℕ}
 use mathlib.Core.List.{List}
 use mathlib.Core.Bool.{Bool, false}
 use lib.ListN.{take}
-use Rattle.frame.specs.Frame.{refusal}
+use Rattle.frame.specs.Frame as packet
 use Rattle.frame.specs.declared.FrameOutcome.{FrameOutcome}
 use Rattle.frame.specs.declared.FrameOutcome.the-variants as outcome
 use Rattle.rules.specs.Answers.{number}
@@ -38,7 +38,7 @@ finishLine (finish.Refused r) room = refusalLine r room
 unfoldable pub outcomeLine : ℕ → FrameOutcome → List ℕ → Bool → List ℕ
 outcomeLine used outcome.Nothing reply spilled = noneLine used reply spilled
 outcomeLine used (outcome.Frame command len) reply spilled = frameLine used command len reply spilled
-outcomeLine used (outcome.Refused r) reply spilled = packetLine used (refusal r) reply spilled
+outcomeLine used (outcome.Refused r) reply spilled = packetLine used (packet.number (r .cause)) (r .at) reply spilled
 
 unfoldable pub feedLine : FeedAnswer → List ℕ → List ℕ
 feedLine (feed.Told used o len) room = outcomeLine used o (take len room) (hasSpilled room len filler)

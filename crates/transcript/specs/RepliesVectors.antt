@@ -1,7 +1,8 @@
 -- The answers' lines at some answers and rooms.
 use mathlib.Core.Path.{_≡_, refl}
 use mathlib.Core.List.{[], _∷_}
-use Rattle.frame.specs.declared.PacketRefusal.the-variants as cause
+use Rattle.frame.specs.Frame.{placesAt}
+use Rattle.frame.specs.declared.Cause.the-variants as cause
 use Rattle.frame.specs.declared.FrameOutcome.the-variants as outcome
 use Rattle.rules.specs.declared.CallRefusal.the-variants as refusal
 use Rattle.rules.specs.declared.CallAnswer.the-variants as call
@@ -9,6 +10,7 @@ use Rattle.rules.specs.declared.FinishAnswer.the-variants as finish
 use Rattle.rules.specs.declared.FeedAnswer.the-variants as feed
 use Rattle.text.specs.Text.{ascii, digit, decimalIn, decimal}
 use Rattle.text.specs.Bytes.{hexPairs, bytesWord}
+use Rattle.text.specs.Places.{placesWord}
 use Rattle.report.specs.Report.{doneLine, lineEnd, refusedLine, finishedLine, noneLine, frameLine, packetLine, hasOther, hasSpilled}
 use Rattle.transcript.specs.Replies.{callLine, refusalLine, finishLine, outcomeLine, feedLine}
 
@@ -42,8 +44,8 @@ feed-frame : feedLine (feed.Told 7 (outcome.Frame 0x0206 2) 1) (0x0F ∷ 0xA4 �
 unfolding ascii digit decimalIn decimal hexPairs bytesWord lineEnd frameLine hasOther hasSpilled outcomeLine feedLine
 feed-frame = refl
 
-feed-packet : feedLine (feed.Told 7 (outcome.Refused cause.WrongCheck) 1) (0x0F ∷ 0xA5 ∷ []) ≡ ascii "used 7 packet 6 reply 0F\n"
-unfolding ascii digit decimalIn decimal hexPairs bytesWord lineEnd packetLine hasOther hasSpilled outcomeLine feedLine
+feed-packet : feedLine (feed.Told 7 (outcome.Refused (record { cause = cause.WrongCheck; at = placesAt 10 9 })) 1) (0x0F ∷ 0xA5 ∷ []) ≡ ascii "used 7 packet 6 at 10 9 reply 0F\n"
+unfolding ascii digit decimalIn decimal hexPairs bytesWord placesWord lineEnd packetLine hasOther hasSpilled outcomeLine feedLine
 feed-packet = refl
 
 feed-refused : feedLine (feed.Refused refusal.WrongTable) (0xC0 ∷ []) ≡ ascii "refused 7 spilled\n"

@@ -12,7 +12,7 @@ use Rattle.transcript.specs.State.{modeOf}
 pub held-at : (bs : List ℕ) (n : ℕ) (m : Mode) → Clear m n → held (at (take n bs) m) ≡ take n bs
 held-at bs n mode.Plain c = refl
 held-at bs n mode.Escaped c = refl
-held-at bs n (mode.Skipping f) c = rw c
+held-at bs n (mode.Skipping f) c = rw (c .0)
 
 pub modeOf-at : (h : List ℕ) (m : Mode) → modeOf (at h m) ≡ m
 unfolding modeOf

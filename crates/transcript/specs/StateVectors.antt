@@ -6,6 +6,8 @@ use lib.ListN.{replicate}
 use Rattle.line.specs.declared.Fault.the-variants as fault
 use Rattle.line.specs.declared.Mode.the-variants as mode
 use Rattle.line.specs.declared.Reading.{Reading}
+use Rattle.frame.specs.Line.{decodedFits, possible}
+use Rattle.frame.specs.Frame.{placesAt}
 use Rattle.frame.specs.Reader.{taken}
 use Rattle.nodes.specs.Table.{recordSize, bit, inUse}
 use Rattle.sessions.specs.declared.Slot.{Slot}
@@ -15,9 +17,10 @@ use Rattle.rules.specs.declared.Hub.{Hub}
 use Rattle.text.specs.Text.{ascii, digit, decimalIn, decimal}
 use Rattle.text.specs.Appended.{appended}
 use Rattle.text.specs.Bytes.{hexPairs, bytesWord}
+use Rattle.text.specs.Places.{placesWord}
 use Rattle.report.specs.Report.{hasOther}
 use Rattle.report.specs.Entry.{nameLength, shown, shownAll, entryHead, entryLine}
-use Rattle.report.specs.State.{flag, loginLine, nodeWord, nodesBelow, slotLine, nodeLine, modeWord, readingLine, endLine}
+use Rattle.report.specs.State.{flag, loginLine, nodeWord, nodesBelow, slotLine, nodeLine, skipWord, modeWord, modePlaces, readingLine, endLine}
 use Rattle.transcript.specs.Lines.{appendedAll, linesBelow}
 use Rattle.transcript.specs.State.{slotLines, recordLines, nodeLines, modeOf, readingLines, stateLines, entryLines, listedLines, tableLines}
 
@@ -37,8 +40,8 @@ readings : List Reading
 readings =
     record { bytes = 0x00 ∷ 0xFE ∷ 0x55 ∷ []; count = 2; mode = mode.Escaped }
     ∷ record { bytes = 0x00 ∷ 0xFE ∷ 0x55 ∷ []; count = 256; mode = mode.Escaped }
-    ∷ record { bytes = 0x00 ∷ 0xFE ∷ 0x55 ∷ []; count = 2; mode = mode.Skipping fault.TooLong }
-    ∷ record { bytes = 0x00 ∷ 0xFE ∷ 0x55 ∷ []; count = 0; mode = mode.Skipping fault.WrongEscape }
+    ∷ record { bytes = 0x00 ∷ 0xFE ∷ 0x55 ∷ []; count = 2; mode = mode.Skipping (record { fault = fault.TooLong; at = placesAt 300 255 }) }
+    ∷ record { bytes = 0x00 ∷ 0xFE ∷ 0x55 ∷ []; count = 0; mode = mode.Skipping (record { fault = fault.WrongEscape; at = placesAt 7 3 }) }
     ∷ []
 
 node : List ℕ
@@ -50,14 +53,22 @@ state : stateLines hub table (map taken readings)
     ∷ node
     ∷ ascii "line 0 escaped 00FE\n"
     ∷ ascii "line 1 plain -\n"
-    ∷ ascii "line 2 skip2 -\n"
-    ∷ ascii "line 3 skip1 -\n"
+    ∷ ascii "line 2 skip2 - at 300 255\n"
+    ∷ ascii "line 3 skip1 - at 7 3\n"
     ∷ ascii "end\n"
     ∷ []
 unfolding session hub table readings node
-    ascii digit decimalIn decimal hexPairs bytesWord hasOther bit flag loginLine nodeWord nodesBelow slotLine nodeLine modeWord readingLine endLine
+    ascii digit decimalIn decimal hexPairs bytesWord hasOther bit flag loginLine nodeWord nodesBelow slotLine nodeLine placesWord skipWord modeWord modePlaces readingLine endLine possible decodedFits
     slotsOf below linesBelow slotLines recordLines nodeLines modeOf readingLines stateLines
 state = refl
+
+-- places one beyond those that bytes could leave: the record is shown as it is taken, emptied
+beyond : Reading
+beyond = record { bytes = 0x00 ∷ 0xFE ∷ 0x55 ∷ []; count = 0; mode = mode.Skipping (record { fault = fault.WrongEscape; at = placesAt 8 3 }) }
+
+impossible : readingLines 0 (taken beyond) ≡ ascii "line 0 plain -\n" ∷ []
+unfolding beyond ascii digit decimalIn decimal hexPairs bytesWord modeWord modePlaces readingLine possible decodedFits modeOf readingLines
+impossible = refl
 
 -- a line that does not fit is left out, and the next one is appended
 lines : appendedAll (0 ∷ 0 ∷ 0 ∷ []) 0 ((1 ∷ 2 ∷ []) ∷ (3 ∷ 4 ∷ []) ∷ (5 ∷ []) ∷ []) ≡ record { bytes = 1 ∷ 2 ∷ 5 ∷ []; place = 3 }

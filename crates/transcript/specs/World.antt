@@ -43,7 +43,7 @@ finishTold (rules.finishedOn l k) reply = finishedLine l reply false
 unfoldable pub outcomeTold : ℕ → Option Outcome → List ℕ → List ℕ
 outcomeTold u none reply = noneLine u reply false
 outcomeTold u (some (packet.frame c d)) reply = frameLine u c (length d) reply false
-outcomeTold u (some (packet.refused n)) reply = packetLine u n reply false
+outcomeTold u (some (packet.refused n)) reply = packetLine u (n .number) (n .at) reply false
 
 -- a feed
 unfoldable pub feedTold : system.Answer → List ℕ → List ℕ

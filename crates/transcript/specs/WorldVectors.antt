@@ -18,6 +18,7 @@ use Rattle.memory.specs.Octets.{same}
 use Rattle.script.specs.Script as script
 use Rattle.text.specs.Text.{ascii, digit, decimalIn, decimal}
 use Rattle.text.specs.Bytes.{hexPairs, bytesWord}
+use Rattle.text.specs.Places.{placesWord}
 use Rattle.report.specs.Report.{badLine, longLine, doneLine, lineEnd, refusedLine, finishedLine, noneLine, frameLine, packetLine}
 use Rattle.transcript.specs.World.{World, Played, callTold, finishTold, outcomeTold, feedTold, start, enrol, feed, close, finish, silent, bad, long, play, nextNumber, linesOf, answersFrom, joined, transcript}
 
@@ -56,9 +57,9 @@ unfolding play finish finishTold rules.notice bytesOf sessions.finish sessions.s
 finished = refl
 
 -- what a feed tells: no outcome, a frame with the number of its data bytes, a packet refusal
-told : map (λ (a : system.Answer). feedTold a (0x0F ∷ [])) (system.told 7 none 1 ∷ system.told 7 (some (frame.frame 0x0206 (1 ∷ 2 ∷ []))) 1 ∷ system.told 7 (some (frame.refused 6)) 1 ∷ [])
-    ≡ ascii "used 7 none reply 0F\n" ∷ ascii "used 7 frame 0206 data 2 reply 0F\n" ∷ ascii "used 7 packet 6 reply 0F\n" ∷ []
-unfolding feedTold outcomeTold ascii digit decimalIn decimal hexPairs bytesWord lineEnd noneLine frameLine packetLine
+told : map (λ (a : system.Answer). feedTold a (0x0F ∷ [])) (system.told 7 none 1 ∷ system.told 7 (some (frame.frame 0x0206 (1 ∷ 2 ∷ []))) 1 ∷ system.told 7 (some (frame.refused (record { number = 15; at = frame.placesAt 7 5 }))) 1 ∷ [])
+    ≡ ascii "used 7 none reply 0F\n" ∷ ascii "used 7 frame 0206 data 2 reply 0F\n" ∷ ascii "used 7 packet 15 at 7 5 reply 0F\n" ∷ []
+unfolding feedTold outcomeTold ascii digit decimalIn decimal hexPairs bytesWord placesWord lineEnd noneLine frameLine packetLine
 told = refl
 
 -- no call is made of a remark, of a bad line and of one that is too long; the last two are told by their numbers

@@ -78,14 +78,11 @@ fn outcome_line(
             reply,
             spilled,
         ),
-        FrameOutcome::Refused(cause) => report::packet_line(
-            out,
-            at,
-            used,
-            frame::number(cause),
-            reply,
-            spilled,
-        ),
+        FrameOutcome::Refused(refusal) => {
+            let cause = refusal.cause;
+            let places = refusal.at;
+            report::packet_line(out, at, used, frame::number(cause), places, reply, spilled)
+        }
     }
 }
 

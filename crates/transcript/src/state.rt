@@ -126,8 +126,8 @@ fn show_reading(out: &mut [u8], at: usize, k: u8, reading: Reading) -> usize
     ensures { λ r. ⌜ Leaves (appendedAll (now (out .entry)) at (readingLines k (taken reading))) (now (out .exit)) r ⌝ }
 {
     let bytes = reading.bytes;
-    let place = frame::taken_place(reading);
-    let mode = place.mode;
-    let n = place.count;
+    let cursor = frame::taken_cursor(reading);
+    let mode = cursor.mode;
+    let n = cursor.count;
     report::reading_line(out, at, k, mode, &bytes[0..n])
 }

@@ -59,10 +59,10 @@ judging bs n g (judged.Refused q) r e f x h l = record { told = rw (e, f) (ap so
 
 -- what the line reader answered, judged, is what the frame layer answers
 pub answered : (s : State) (w bs : List ℕ) (t : line-told.PacketAt) (o : FrameOutcome) → line-answers.Answers (line.read s w) (line-answers.answerOf bs t) → Judging bs (t .outcome) o
-    → Answers (read s w) (answerOf bs (record { used = t .used; outcome = o; place = t .place }))
+    → Answers (read s w) (answerOf bs (record { used = t .used; outcome = o; cursor = t .cursor }))
 answered s w bs t o x y = record {
   told =
-      ap (λ (z : Option Frame.Outcome). record { used = t .used; outcome = z; after = takenAs bs (t .place .count) (t .place .mode) }) (y .told)
+      ap (λ (z : Option Frame.Outcome). record { used = t .used; outcome = z; after = takenAs bs (t .cursor .count) (t .cursor .mode) }) (y .told)
       ∙ ap judgedCall (x .told)
       ∙ sym (read-judged s w);
   data-within = y .within;

@@ -1,6 +1,6 @@
--- `framing::seen` meets its contract: a walk of its MIR, by hand. The view that one call returns is held in a local, and its command number, its data
--- and its refusal are read by three more. All that the proof knows of the callees is that each meets its contract.
--- The view is Copy: what it owns is had again for the second and the third of them.
+-- `framing::seen` meets its contract: a walk of its MIR, by hand. The view that one call returns is held in a local, and its command number, its data,
+-- its refusal and its places are read by four more. All that the proof knows of the callees is that each meets its contract.
+-- The view is Copy: what it owns is had again for all of them but the first.
 use mathlib.Core.Path.{refl}
 use Prim.Native.Nat.{ℕ}
 use mathlib.Core.List.{List, [], _∷_}
@@ -36,6 +36,9 @@ use denote.Triple.Table.{entered, cited}
 use denote.Triple.Walked.{Stays, stay-none-slice, walkOf, goes-none-slice, Walks, ends-at, walked, walk-meets}
 use denote.Exit.{yes}
 use denote.Triple.Clauses.{ensured}
+use Rattle.line.specs.declared.Places.{Places}
+use Rattle.line.proofs.Places as P
+use Rattle.line.proofs.Places.Laws as P′
 use Rattle.frame.specs.declared.view.View.{View}
 use Rattle.frame.proofs.view.View as T
 use Rattle.frame.proofs.view.View.Laws as T′
@@ -55,6 +58,10 @@ use Rattle.frame.proofs.refusal as refusal
 use Rattle.frame.proofs.refusal.Symbol as refusal-def
 use Rattle.frame.proofs.refusal.Symbol.{name as #view·refusal}
 use Rattle.frame.proofs.refusal.Met as refusal-thm
+use Rattle.frame.proofs.broken_at as broken-at
+use Rattle.frame.proofs.broken_at.Symbol as broken-at-def
+use Rattle.frame.proofs.broken_at.Symbol.{name as #view·broken-at}
+use Rattle.frame.proofs.broken_at.Met as broken-at-thm
 use Rattle.framing.specs.declared.Copied.{Copied}
 use Rattle.framing.proofs.Copied as X
 use Rattle.framing.proofs.Copied.Laws as X′
@@ -83,6 +90,9 @@ module _ {M : Type 1} (𝓤 : URA M) (H : Heap 𝓤) (A : Atoms 𝓤) (mem : Mem
 
   abbrev Refusal : Contract 𝓤
   Refusal = tripleOf 𝓤 H A refusal.signature (refusal.spec 𝓤 H A mem run)
+
+  abbrev BrokenAt : Contract 𝓤
+  BrokenAt = tripleOf 𝓤 H A broken-at.signature (broken-at.spec 𝓤 H A mem run)
 
   abbrev Shown : Contract 𝓤
   Shown = tripleOf 𝓤 H A shown.signature (shown.spec 𝓤 H A mem run)
@@ -142,17 +152,28 @@ module _ {M : Type 1} (𝓤 : URA M) (H : Heap 𝓤) (A : Atoms 𝓤) (W : Given
   abbrev to-refusal : View → Val → Refusal 𝓤 H A mem run .Ghost
   to-refusal r u = (((κ, tt), (q, tt), tt, (r, tt), (u ∷ [], tt)), tt)
 
-  goes-refusal : (r : View) (u : Val) → ent 𝓤 (⋆ 𝓤 H A ((‵ (flft κ q) ⊛ ‵ ftrue) ∷ ‵ (B .own r (u ∷ [])) ∷ [])) (Refusal 𝓤 H A mem run .pre (to-refusal r u))
-  goes-refusal r u = qed W ((‵ (flft κ q) ⊛ ‵ ftrue) ∷ ‵ (B .own r (u ∷ [])) ∷ []) ∵ nothing ! $ move ! (2 ∷ 0 ∷ []) $ fjoin ! $ move ! (1 ∷ 0 ∷ []) $ join ! $ frame ! $ done !
+  goes-refusal : (r : View) (u : Val) → ent 𝓤 (⋆ 𝓤 H A (‵ (B .own r (u ∷ [])) ∷ (‵ (flft κ q) ⊛ ‵ ftrue) ∷ [])) (sep 𝓤 (Refusal 𝓤 H A mem run .pre (to-refusal r u)) (sem 𝓤 H A (B .own r (u ∷ []))))
+  goes-refusal r u =
+      qed W (‵ (B .own r (u ∷ [])) ∷ (‵ (flft κ q) ⊛ ‵ ftrue) ∷ []) ∵
+      use1 W (‵ (B .own r (u ∷ [])) ⊛ ‵ (B .own r (u ∷ []))) (LL.copy (T.the-type α) (T′.the-copy α) 𝓤 H A W .twice r (u ∷ [])) $ split ! $ nothing ! $ move ! (1 ∷ 0 ∷ []) $ fjoin ! $
+      move ! (2 ∷ 0 ∷ []) $ use2 W (raw (Refusal 𝓤 H A mem run .pre (to-refusal r u))) (qed W ((‵ (flft κ q) ⊛ ‵ ftrue) ∷ ‵ (owns (B ∷ []) (r, tt) (u ∷ [], tt)) ∷ []) ∵ join ! $ frame ! $ done !) $ frame ! $ done !
+
+  abbrev to-broken-at : View → Val → BrokenAt 𝓤 H A mem run .Ghost
+  to-broken-at r u = (((κ, tt), (q, tt), tt, (r, tt), (u ∷ [], tt)), tt)
+
+  goes-broken-at : (r : View) (u : Val) → ent 𝓤 (⋆ 𝓤 H A ((‵ (flft κ q) ⊛ ‵ ftrue) ∷ ‵ (B .own r (u ∷ [])) ∷ [])) (BrokenAt 𝓤 H A mem run .pre (to-broken-at r u))
+  goes-broken-at r u = qed W ((‵ (flft κ q) ⊛ ‵ ftrue) ∷ ‵ (B .own r (u ∷ [])) ∷ []) ∵ nothing ! $ move ! (2 ∷ 0 ∷ []) $ fjoin ! $ move ! (1 ∷ 0 ∷ []) $ join ! $ frame ! $ done !
 
   -- the call on what the view shows
-  abbrev to-shown : ℕ → RefT (List ℕ) → ℕ → Val → Val → Val → Shown 𝓤 H A mem run .Ghost
-  to-shown c d n u₂ u₃ u₄ = (((κ, tt), (q, tt), tt, (c, (d, (n, tt))), (u₂ ∷ [], (u₃ ∷ [], (u₄ ∷ [], tt)))), tt)
+  abbrev to-shown : ℕ → RefT (List ℕ) → ℕ → Places → Val → Val → Val → Val → Shown 𝓤 H A mem run .Ghost
+  to-shown c d n at u₂ u₃ u₄ u₅ = (((κ, tt), (q, tt), tt, (c, (d, (n, (at, tt)))), (u₂ ∷ [], (u₃ ∷ [], (u₄ ∷ [], (u₅ ∷ [], tt))))), tt)
 
-  goes-shown : (c : ℕ) (d : RefT (List ℕ)) (n : ℕ) (u₂ u₃ u₄ : Val) → Is u16 c (u₂ ∷ []) → Is u8 n (u₄ ∷ []) → ent 𝓤 (⋆ 𝓤 H A (‵ (S .own d (u₃ ∷ [])) ∷ (‵ (flft κ q) ⊛ ‵ ftrue) ∷ [])) (Shown 𝓤 H A mem run .pre (to-shown c d n u₂ u₃ u₄))
-  goes-shown c d n u₂ u₃ u₄ is-c is-n =
+  goes-shown : (c : ℕ) (d : RefT (List ℕ)) (n : ℕ) (at : Places) (u₂ u₃ u₄ u₅ : Val) → Is u16 c (u₂ ∷ []) → Is u8 n (u₄ ∷ []) → Is P.the-row at (u₅ ∷ [])
+      → ent 𝓤 (⋆ 𝓤 H A (‵ (S .own d (u₃ ∷ [])) ∷ (‵ (flft κ q) ⊛ ‵ ftrue) ∷ [])) (Shown 𝓤 H A mem run .pre (to-shown c d n at u₂ u₃ u₄ u₅))
+  goes-shown c d n at u₂ u₃ u₄ u₅ is-c is-n is-at =
       qed W (‵ (S .own d (u₃ ∷ [])) ∷ (‵ (flft κ q) ⊛ ‵ ftrue) ∷ []) ∵
-      nothing ! $ owned ! u8 (Is u8) (uint-makes 𝓤 H A W w8) n _ is-n $ fjoin ! $ move ! (1 ∷ 0 ∷ []) $ fjoin ! $ owned ! u16 (Is u16) (uint-makes 𝓤 H A W w16) c _ is-c $ fjoin ! $ move ! (1 ∷ 0 ∷ []) $ join ! $ frame ! $ done !
+      nothing ! $ owned ! P.the-row (Is P.the-row) (LL.makes P.the-type P′.the-plain 𝓤 H A) at _ is-at $ fjoin ! $ owned ! u8 (Is u8) (uint-makes 𝓤 H A W w8) n _ is-n $ fjoin ! $ move ! (1 ∷ 0 ∷ []) $ fjoin ! $
+      owned ! u16 (Is u16) (uint-makes 𝓤 H A W w16) c _ is-c $ fjoin ! $ move ! (1 ∷ 0 ∷ []) $ join ! $ frame ! $ done !
 
   exits : (t : Copied) (u : Val) → ent 𝓤 (⋆ 𝓤 H A (‵ (X.the-row .own t (u ∷ [])) ∷ (‵ (flft κ q) ⊛ ‵ ftrue) ∷ ‵ Own ∷ [])) (Post u)
   exits t u =
@@ -160,65 +181,74 @@ module _ {M : Type 1} (𝓤 : URA M) (H : Heap 𝓤) (A : Atoms 𝓤) (W : Given
       suffices ! _ (ends-at 𝓤 H A seen.ended stayed (seen.clauses 𝓤 H A mem run) W (((κ, tt), (q, tt), tt, (s, tt), (v ∷ [], tt)), tt) u t (tt, tt) (tt, tt)) $
       nothing ! $ move ! (3 ∷ 0 ∷ []) $ fjoin ! $ join ! $ move ! (1 ∷ 0 ∷ []) $ join ! $ frame ! $ done !
 
-  module _ (C : Calls 𝓤 H) (Λ : Loops 𝓤 H) (fm : FmC 𝓤 H (W .laws) C) (known-show : Triple 𝓤 (C #view·show) (Show 𝓤 H A mem run)) (known-command : Triple 𝓤 (C #view·command) (Command 𝓤 H A mem run)) (known-part : Triple 𝓤 (C #view·data) (Part 𝓤 H A mem run)) (known-refusal : Triple 𝓤 (C #view·refusal) (Refusal 𝓤 H A mem run)) (known-shown : Triple 𝓤 (C #framing·shown) (Shown 𝓤 H A mem run)) where
+  module _ (C : Calls 𝓤 H) (Λ : Loops 𝓤 H) (fm : FmC 𝓤 H (W .laws) C) (known-show : Triple 𝓤 (C #view·show) (Show 𝓤 H A mem run)) (known-command : Triple 𝓤 (C #view·command) (Command 𝓤 H A mem run)) (known-part : Triple 𝓤 (C #view·data) (Part 𝓤 H A mem run)) (known-refusal : Triple 𝓤 (C #view·refusal) (Refusal 𝓤 H A mem run)) (known-broken-at : Triple 𝓤 (C #view·broken-at) (BrokenAt 𝓤 H A mem run)) (known-shown : Triple 𝓤 (C #framing·shown) (Shown 𝓤 H A mem run)) where
     walk : Is S s (v ∷ []) → ent 𝓤 (onEntry 𝓤 H A seen.signature (κ, tt) (q, tt) (s, tt) (v ∷ [], tt)) (WpFn 𝓤 H C Λ code.function (v ∷ []) Post)
     walk p =
         qed W (raw (onEntry 𝓤 H A seen.signature (κ, tt) (q, tt) (s, tt) (v ∷ [], tt)) ∷ []) ∵ enter ! C Λ code.function (v ∷ []) _ $
-        alloc1 ! (λ l₀. alloc1 ! (λ l₁. alloc1 ! (λ l₂. alloc1 ! (λ l₃. alloc1 ! (λ l₄. alloc1 ! (λ l₅. alloc1 ! (λ l₆. alloc1 ! (λ l₇. alloc1 ! (λ l₈. alloc0 ! $ params1 ! $ pass1 ! (init ! 14 refl (shr-slice-lawful 𝓤 H A W (named 0) κ u8 .typed s (v ∷ []) p .0)) $ pass0 ! $
-        move ! (18 ∷ []) $ use1 W (raw (Show 𝓤 H A mem run .pre to-show) ⊛ ‵ Own) goes-show $ split ! $
-        calls-at ! fm (Show 𝓤 H A mem run) known-show to-show (and-then ! (load ! (from ! (stop !)) (look ! 16 refl)) (no-more !)) (λ u.
+        alloc1 ! (λ l₀. alloc1 ! (λ l₁. alloc1 ! (λ l₂. alloc1 ! (λ l₃. alloc1 ! (λ l₄. alloc1 ! (λ l₅. alloc1 ! (λ l₆. alloc1 ! (λ l₇. alloc1 ! (λ l₈. alloc1 ! (λ l₉. alloc1 ! (λ l₁₀. alloc0 ! $ params1 ! $ pass1 ! (init ! 18 refl (shr-slice-lawful 𝓤 H A W (named 0) κ u8 .typed s (v ∷ []) p .0)) $ pass0 ! $
+        move ! (22 ∷ []) $ use1 W (raw (Show 𝓤 H A mem run .pre to-show) ⊛ ‵ Own) goes-show $ split ! $
+        calls-at ! fm (Show 𝓤 H A mem run) known-show to-show (and-then ! (load ! (from ! (stop !)) (look ! 20 refl)) (no-more !)) (λ u.
         use1 W (later (some (λ (r : View). ((‵ (flft κ q) ⊛ ‵ ftrue) ⊛ ‵ (B .own r (u ∷ []))) ⊛ raw (ensured 𝓤 H A show.ended (show.clauses 𝓤 H A mem run) (κ, tt) (s, tt) tt r)))) (id⊢ 𝓤 _) $ await ! tt $ pick ! (λ r.
         split ! $ move ! (1 ∷ []) $ drop ! $ split ! $ move ! (1 ∷ []) $
-        -- [what the view owns; the token; what s owns; room for _8; …; _7; …; _6; …; _5; …; _4; …; _3; …; _2; …; _1; …; room for _0; …]
+        -- [what the view owns; the token; what s owns; room for _10; …; _9; …; _8; …; _7; …; _6; …; _5; …; _4; …; _3; …; _2; …; _1; …; room for _0; …]
         peeks ! B (Is B) (shows 𝓤 H A B) r (u ∷ []) (λ is-r.
-        land ! (from ! (stop !)) (init ! 15 refl (LL.lawful (T.the-type αᵉ) (T′.the-laws αᵉ) 𝓤 H A W .typed r _ is-r .0)) $
-        assigns ! (of-opd ! (load ! (from ! (stop !)) (look ! 15 refl))) (from ! (stop !)) (init ! 11 refl (LL.lawful (T.the-type αᵉ) (T′.the-laws αᵉ) 𝓤 H A W .typed r _ is-r .0)) $
+        land ! (from ! (stop !)) (init ! 19 refl (LL.lawful (T.the-type αᵉ) (T′.the-laws αᵉ) 𝓤 H A W .typed r _ is-r .0)) $
+        assigns ! (of-opd ! (load ! (from ! (stop !)) (look ! 19 refl))) (from ! (stop !)) (init ! 15 refl (LL.lawful (T.the-type αᵉ) (T′.the-laws αᵉ) 𝓤 H A W .typed r _ is-r .0)) $
         use2 W (raw (Command 𝓤 H A mem run .pre (to-command r u)) ⊛ ‵ (B .own r (u ∷ []))) (goes-command r u) $ split ! $
-        calls-at ! fm (Command 𝓤 H A mem run) known-command (to-command r u) (and-then ! (load ! (from ! (stop !)) (look ! 11 refl)) (no-more !)) (λ u₂.
+        calls-at ! fm (Command 𝓤 H A mem run) known-command (to-command r u) (and-then ! (load ! (from ! (stop !)) (look ! 15 refl)) (no-more !)) (λ u₂.
         use1 W (later (some (λ (c : ℕ). ((‵ (flft κ q) ⊛ ‵ ftrue) ⊛ ‵ (u16 .own c (u₂ ∷ []))) ⊛ raw (ensured 𝓤 H A command.ended (command.clauses 𝓤 H A mem run) (κ, tt) (r, tt) tt c)))) (id⊢ 𝓤 _) $ await ! tt $ pick ! (λ c.
         split ! $ move ! (1 ∷ []) $ drop ! $ split ! $ move ! (1 ∷ []) $
-        -- [what the number owns; the token; what the view owns; what s owns; room for _8; …; _7; …; _6; …; _5; …; _4; …; _3; …; _2; …; _1; …; room for _0; …]
+        -- [what the number owns; the token; what the view owns; what s owns; room for _10; …; _9; …; _8; …; _7; …; _6; …; _5; …; _4; …; _3; …; _2; …; _1; …; room for _0; …]
         peeks ! u16 (Is u16) (shows 𝓤 H A u16) c (u₂ ∷ []) (λ is-c.
-        land ! (from ! (stop !)) (init ! 14 refl (uint-lawful 𝓤 H A W w16 .typed c _ is-c .0)) $
-        assigns ! (of-opd ! (load ! (from ! (stop !)) (look ! 16 refl))) (from ! (stop !)) (init ! 8 refl (LL.lawful (T.the-type αᵉ) (T′.the-laws αᵉ) 𝓤 H A W .typed r _ is-r .0)) $
+        land ! (from ! (stop !)) (init ! 18 refl (uint-lawful 𝓤 H A W w16 .typed c _ is-c .0)) $
+        assigns ! (of-opd ! (load ! (from ! (stop !)) (look ! 20 refl))) (from ! (stop !)) (init ! 12 refl (LL.lawful (T.the-type αᵉ) (T′.the-laws αᵉ) 𝓤 H A W .typed r _ is-r .0)) $
         drop ! $ move ! (1 ∷ 0 ∷ []) $ use2 W (raw (Part 𝓤 H A mem run .pre (to-part r u)) ⊛ ‵ (B .own r (u ∷ []))) (goes-part r u) $ split ! $
-        calls-at ! fm (Part 𝓤 H A mem run) known-part (to-part r u) (and-then ! (load ! (from ! (stop !)) (look ! 7 refl)) (no-more !)) (λ u₃.
+        calls-at ! fm (Part 𝓤 H A mem run) known-part (to-part r u) (and-then ! (load ! (from ! (stop !)) (look ! 11 refl)) (no-more !)) (λ u₃.
         use1 W (later (some (λ (d : RefT (List ℕ)). ((‵ (flft κ q) ⊛ ‵ ftrue) ⊛ ‵ (S .own d (u₃ ∷ []))) ⊛ raw (ensured 𝓤 H A part.ended (part.clauses 𝓤 H A mem run) (κ, tt) (r, tt) tt d)))) (id⊢ 𝓤 _) $ await ! tt $ pick ! (λ d.
         split ! $ move ! (1 ∷ []) $ drop ! $ split ! $ move ! (1 ∷ []) $
-        -- [what the data own; the token; what the view owns; what s owns; _8; …; _7; …; _6; …; room for _5; …; _4; …; _3; …; _2; …; _1; …; room for _0; …]
+        -- [what the data own; the token; what the view owns; what s owns; room for _10; …; _9; …; _8; …; _7; …; _6; …; _5; …; _4; …; _3; …; _2; …; _1; …; room for _0; …]
         peeks ! S (Is S) (shows 𝓤 H A S) d (u₃ ∷ []) (λ is-d.
-        land ! (from ! (stop !)) (init ! 10 refl (shr-slice-lawful 𝓤 H A W erased κ u8 .typed d (u₃ ∷ []) is-d .0)) $
-        assigns ! (of-opd ! (load ! (from ! (stop !)) (look ! 16 refl))) (from ! (stop !)) (init ! 4 refl (LL.lawful (T.the-type αᵉ) (T′.the-laws αᵉ) 𝓤 H A W .typed r _ is-r .0)) $
-        move ! (1 ∷ 2 ∷ []) $ use2 W (raw (Refusal 𝓤 H A mem run .pre (to-refusal r u))) (goes-refusal r u) $
-        -- [what the call asks; what the data own; what s owns; _8; …; room for _7; …; _6; …; _5; …; _4; …; _3; …; _2; …; _1; …; room for _0; …]
-        calls-at ! fm (Refusal 𝓤 H A mem run) known-refusal (to-refusal r u) (and-then ! (load ! (from ! (stop !)) (look ! 3 refl)) (no-more !)) (λ u₄.
+        land ! (from ! (stop !)) (init ! 14 refl (shr-slice-lawful 𝓤 H A W erased κ u8 .typed d (u₃ ∷ []) is-d .0)) $
+        assigns ! (of-opd ! (load ! (from ! (stop !)) (look ! 20 refl))) (from ! (stop !)) (init ! 8 refl (LL.lawful (T.the-type αᵉ) (T′.the-laws αᵉ) 𝓤 H A W .typed r _ is-r .0)) $
+        move ! (2 ∷ 1 ∷ []) $ use2 W (raw (Refusal 𝓤 H A mem run .pre (to-refusal r u)) ⊛ ‵ (B .own r (u ∷ []))) (goes-refusal r u) $ split ! $
+        -- [what the call asks; what the view owns; what the data own; what s owns; room for _10; …; _9; …; _8; …; _7; …; _6; …; _5; …; _4; …; _3; …; _2; …; _1; …; room for _0; …]
+        calls-at ! fm (Refusal 𝓤 H A mem run) known-refusal (to-refusal r u) (and-then ! (load ! (from ! (stop !)) (look ! 8 refl)) (no-more !)) (λ u₄.
         use1 W (later (some (λ (n : ℕ). ((‵ (flft κ q) ⊛ ‵ ftrue) ⊛ ‵ (u8 .own n (u₄ ∷ []))) ⊛ raw (ensured 𝓤 H A refusal.ended (refusal.clauses 𝓤 H A mem run) (κ, tt) (r, tt) tt n)))) (id⊢ 𝓤 _) $ await ! tt $ pick ! (λ n.
         split ! $ move ! (1 ∷ []) $ drop ! $ split ! $ move ! (1 ∷ []) $
-        -- [what the number owns; the token; what the data own; what s owns; _8; …; room for _7; …; _6; …; _5; …; _4; …; _3; …; _2; …; _1; …; room for _0; …]
+        -- [what the number owns; the token; what the view owns; what the data own; what s owns; room for _10; …; _9; …; _8; …; _7; …; _6; …; _5; …; _4; …; _3; …; _2; …; _1; …; room for _0; …]
         peeks ! u8 (Is u8) (shows 𝓤 H A u8) n (u₄ ∷ []) (λ is-n.
-        land ! (from ! (stop !)) (init ! 6 refl (uint-lawful 𝓤 H A W w8 .typed n _ is-n .0)) $ drop ! $
-        move ! (1 ∷ 0 ∷ []) $ use2 W (raw (Shown 𝓤 H A mem run .pre (to-shown c d n u₂ u₃ u₄))) (goes-shown c d n u₂ u₃ u₄ is-c is-n) $
-        calls-at ! fm (Shown 𝓤 H A mem run) known-shown (to-shown c d n u₂ u₃ u₄) (and-then ! (load ! (from ! (stop !)) (look ! 12 refl)) (and-then ! (load ! (from ! (stop !)) (look ! 8 refl)) (and-then ! (load ! (from ! (stop !)) (look ! 4 refl)) (no-more !)))) (λ u₅.
-        use1 W (later (some (λ (t : Copied). ((‵ (flft κ q) ⊛ ‵ ftrue) ⊛ ‵ (X.the-row .own t (u₅ ∷ []))) ⊛ raw (ensured 𝓤 H A shown.ended (shown.clauses 𝓤 H A mem run) (κ, tt) (c, (d, (n, tt))) tt t)))) (id⊢ 𝓤 _) $ await ! tt $ pick ! (λ t.
+        land ! (from ! (stop !)) (init ! 11 refl (uint-lawful 𝓤 H A W w8 .typed n _ is-n .0)) $
+        assigns ! (of-opd ! (load ! (from ! (stop !)) (look ! 21 refl))) (from ! (stop !)) (init ! 5 refl (LL.lawful (T.the-type αᵉ) (T′.the-laws αᵉ) 𝓤 H A W .typed r _ is-r .0)) $
+        drop ! $ use2 W (raw (BrokenAt 𝓤 H A mem run .pre (to-broken-at r u))) (goes-broken-at r u) $
+        -- [what the call asks; what the data own; what s owns; room for _10; …; _9; …; _8; …; _7; …; _6; …; _5; …; _4; …; _3; …; _2; …; _1; …; room for _0; …]
+        calls-at ! fm (BrokenAt 𝓤 H A mem run) known-broken-at (to-broken-at r u) (and-then ! (load ! (from ! (stop !)) (look ! 3 refl)) (no-more !)) (λ u₅.
+        use1 W (later (some (λ (at : Places). ((‵ (flft κ q) ⊛ ‵ ftrue) ⊛ ‵ (P.the-row .own at (u₅ ∷ []))) ⊛ raw (ensured 𝓤 H A broken-at.ended (broken-at.clauses 𝓤 H A mem run) (κ, tt) (r, tt) tt at)))) (id⊢ 𝓤 _) $ await ! tt $ pick ! (λ at.
         split ! $ move ! (1 ∷ []) $ drop ! $ split ! $ move ! (1 ∷ []) $
-        -- [the result; the token; what s owns; _8; …; _7; …; _6; …; _5; …; _4; …; _3; …; _2; …; _1; …; room for _0; …]
-        peeks ! X.the-row (Is X.the-row) (shows 𝓤 H A X.the-row) t (u₅ ∷ []) (λ is-t.
-        land ! (from ! (stop !)) (init ! 19 refl (LL.lawful X.the-type X′.the-laws 𝓤 H A W .typed t _ is-t .0)) $
-        returns ! (look ! 19 refl) $ forget ! 3 refl $ forget ! 5 refl $ forget ! 7 refl $ forget ! 9 refl $ forget ! 11 refl $ forget ! 13 refl $ forget ! 15 refl $ forget ! 17 refl $ forget ! 19 refl $
-        move ! (19 ∷ 20 ∷ []) $ free1 ! $ move ! (17 ∷ 18 ∷ []) $ free1 ! $ move ! (15 ∷ 16 ∷ []) $ free1 ! $ move ! (13 ∷ 14 ∷ []) $ free1 ! $ move ! (11 ∷ 12 ∷ []) $ free1 ! $ move ! (9 ∷ 10 ∷ []) $ free1 ! $ move ! (7 ∷ 8 ∷ []) $ free1 ! $ move ! (5 ∷ 6 ∷ []) $ free1 ! $ move ! (3 ∷ 4 ∷ []) $ free1 ! $ free0 ! $
-        by ! (exits t u₅)))))))))))))))))))))))))
+        -- [what the places own; the token; what the data own; what s owns; room for _10; …; _9; …; _8; …; _7; …; _6; …; _5; …; _4; …; _3; …; _2; …; _1; …; room for _0; …]
+        peeks ! P.the-row (Is P.the-row) (shows 𝓤 H A P.the-row) at (u₅ ∷ []) (λ is-at.
+        land ! (from ! (stop !)) (init ! 6 refl (LL.lawful P.the-type P′.the-laws 𝓤 H A W .typed at _ is-at .0)) $ drop ! $
+        move ! (1 ∷ 0 ∷ []) $ use2 W (raw (Shown 𝓤 H A mem run .pre (to-shown c d n at u₂ u₃ u₄ u₅))) (goes-shown c d n at u₂ u₃ u₄ u₅ is-c is-n is-at) $
+        calls-at ! fm (Shown 𝓤 H A mem run) known-shown (to-shown c d n at u₂ u₃ u₄ u₅) (and-then ! (load ! (from ! (stop !)) (look ! 16 refl)) (and-then ! (load ! (from ! (stop !)) (look ! 12 refl)) (and-then ! (load ! (from ! (stop !)) (look ! 8 refl)) (and-then ! (load ! (from ! (stop !)) (look ! 4 refl)) (no-more !))))) (λ u₆.
+        use1 W (later (some (λ (t : Copied). ((‵ (flft κ q) ⊛ ‵ ftrue) ⊛ ‵ (X.the-row .own t (u₆ ∷ []))) ⊛ raw (ensured 𝓤 H A shown.ended (shown.clauses 𝓤 H A mem run) (κ, tt) (c, (d, (n, (at, tt)))) tt t)))) (id⊢ 𝓤 _) $ await ! tt $ pick ! (λ t.
+        split ! $ move ! (1 ∷ []) $ drop ! $ split ! $ move ! (1 ∷ []) $
+        -- [the result; the token; what s owns; _10; …; _9; …; _8; …; _7; …; _6; …; _5; …; _4; …; _3; …; _2; …; _1; …; room for _0; …]
+        peeks ! X.the-row (Is X.the-row) (shows 𝓤 H A X.the-row) t (u₆ ∷ []) (λ is-t.
+        land ! (from ! (stop !)) (init ! 23 refl (LL.lawful X.the-type X′.the-laws 𝓤 H A W .typed t _ is-t .0)) $
+        returns ! (look ! 23 refl) $ forget ! 3 refl $ forget ! 5 refl $ forget ! 7 refl $ forget ! 9 refl $ forget ! 11 refl $ forget ! 13 refl $ forget ! 15 refl $ forget ! 17 refl $ forget ! 19 refl $ forget ! 21 refl $ forget ! 23 refl $
+        move ! (23 ∷ 24 ∷ []) $ free1 ! $ move ! (21 ∷ 22 ∷ []) $ free1 ! $ move ! (19 ∷ 20 ∷ []) $ free1 ! $ move ! (17 ∷ 18 ∷ []) $ free1 ! $ move ! (15 ∷ 16 ∷ []) $ free1 ! $ move ! (13 ∷ 14 ∷ []) $ free1 ! $ move ! (11 ∷ 12 ∷ []) $ free1 ! $ move ! (9 ∷ 10 ∷ []) $ free1 ! $ move ! (7 ∷ 8 ∷ []) $ free1 ! $ move ! (5 ∷ 6 ∷ []) $ free1 ! $ move ! (3 ∷ 4 ∷ []) $ free1 ! $ free0 ! $
+        by ! (exits t u₆))))))))))))))))))))))))))))))
 
 module _ {M : Type 1} (𝓤 : URA M) (H : Heap 𝓤) (A : Atoms 𝓤) (W : Given 𝓤 H A) (mem : Memory → SProp 𝓤) (run : Routine → Fun 𝓤) where
-  seen-walks : (C : Calls 𝓤 H) (Λ : Loops 𝓤 H) → FmC 𝓤 H (W .laws) C → Triple 𝓤 (C #view·show) (Show 𝓤 H A mem run) → Triple 𝓤 (C #view·command) (Command 𝓤 H A mem run) → Triple 𝓤 (C #view·data) (Part 𝓤 H A mem run) → Triple 𝓤 (C #view·refusal) (Refusal 𝓤 H A mem run) → Triple 𝓤 (C #framing·shown) (Shown 𝓤 H A mem run)
+  seen-walks : (C : Calls 𝓤 H) (Λ : Loops 𝓤 H) → FmC 𝓤 H (W .laws) C → Triple 𝓤 (C #view·show) (Show 𝓤 H A mem run) → Triple 𝓤 (C #view·command) (Command 𝓤 H A mem run) → Triple 𝓤 (C #view·data) (Part 𝓤 H A mem run) → Triple 𝓤 (C #view·refusal) (Refusal 𝓤 H A mem run) → Triple 𝓤 (C #view·broken-at) (BrokenAt 𝓤 H A mem run) → Triple 𝓤 (C #framing·shown) (Shown 𝓤 H A mem run)
       → Walks 𝓤 H A seen.ended stayed (WpFn 𝓤 H C Λ code.function) (seen.clauses 𝓤 H A mem run)
-  seen-walks C Λ fm known-show known-command known-part known-refusal known-shown = walked 𝓤 H A seen.ended stayed (seen.clauses 𝓤 H A mem run) (WpFn 𝓤 H C Λ code.function) (λ κs. (slice-vals, tt)) (λ κs. (shr-slice-tells (named 0) (κs .0) u8, tt))
-      (λ κs qs bounds a g are. via 𝓤 _ (fst∗ 𝓤 _ (emp 𝓤)) (walk 𝓤 H A W mem run (κs .0) (qs .0) (a .0) C Λ fm known-show known-command known-part known-refusal known-shown (are .0)))
+  seen-walks C Λ fm known-show known-command known-part known-refusal known-broken-at known-shown = walked 𝓤 H A seen.ended stayed (seen.clauses 𝓤 H A mem run) (WpFn 𝓤 H C Λ code.function) (λ κs. (slice-vals, tt)) (λ κs. (shr-slice-tells (named 0) (κs .0) u8, tt))
+      (λ κs qs bounds a g are. via 𝓤 _ (fst∗ 𝓤 _ (emp 𝓤)) (walk 𝓤 H A W mem run (κs .0) (qs .0) (a .0) C Λ fm known-show known-command known-part known-refusal known-broken-at known-shown (are .0)))
 
 seen-meets : {M : Type 1} (𝓤 : URA M) (H : Heap 𝓤) (A : Atoms 𝓤) (W : Given 𝓤 H A) (mem : Memory → SProp 𝓤) (run : Routine → Fun 𝓤) (𝓣 : Tables 𝓤 H)
-    → Triple 𝓤 (𝓣 .C #view·show) (Show 𝓤 H A mem run) → Triple 𝓤 (𝓣 .C #view·command) (Command 𝓤 H A mem run) → Triple 𝓤 (𝓣 .C #view·data) (Part 𝓤 H A mem run) → Triple 𝓤 (𝓣 .C #view·refusal) (Refusal 𝓤 H A mem run) → Triple 𝓤 (𝓣 .C #framing·shown) (Shown 𝓤 H A mem run)
+    → Triple 𝓤 (𝓣 .C #view·show) (Show 𝓤 H A mem run) → Triple 𝓤 (𝓣 .C #view·command) (Command 𝓤 H A mem run) → Triple 𝓤 (𝓣 .C #view·data) (Part 𝓤 H A mem run) → Triple 𝓤 (𝓣 .C #view·refusal) (Refusal 𝓤 H A mem run) → Triple 𝓤 (𝓣 .C #view·broken-at) (BrokenAt 𝓤 H A mem run) → Triple 𝓤 (𝓣 .C #framing·shown) (Shown 𝓤 H A mem run)
     → Meets 𝓤 H A seen.signature (WpFn 𝓤 H (𝓣 .C) (𝓣 .Λ) code.function) (seen.spec 𝓤 H A mem run)
-seen-meets 𝓤 H A W mem run 𝓣 known-show known-command known-part known-refusal known-shown = walk-meets 𝓤 H A seen.ended stayed W (goes-none-slice 𝓤 H A W 1 (0 ∷ []) tt (plain (λ _. u8)) yes, tt) (seen.clauses 𝓤 H A mem run) (WpFn 𝓤 H (𝓣 .C) (𝓣 .Λ) code.function) (WpFn-mono 𝓤 H (W .laws) 𝓣 code.function)
-    (seen-walks 𝓤 H A W mem run (𝓣 .C) (𝓣 .Λ) (fmOf 𝓤 H (W .laws) 𝓣) known-show known-command known-part known-refusal known-shown)
+seen-meets 𝓤 H A W mem run 𝓣 known-show known-command known-part known-refusal known-broken-at known-shown = walk-meets 𝓤 H A seen.ended stayed W (goes-none-slice 𝓤 H A W 1 (0 ∷ []) tt (plain (λ _. u8)) yes, tt) (seen.clauses 𝓤 H A mem run) (WpFn 𝓤 H (𝓣 .C) (𝓣 .Λ) code.function) (WpFn-mono 𝓤 H (W .laws) 𝓣 code.function)
+    (seen-walks 𝓤 H A W mem run (𝓣 .C) (𝓣 .Λ) (fmOf 𝓤 H (W .laws) 𝓣) known-show known-command known-part known-refusal known-broken-at known-shown)
 
 pub seen-spec : {M : Type 1} → stated.statement M
 unfolding code.routine tablesOf
@@ -230,4 +260,5 @@ seen-spec 𝓤 H 𝓜 𝓖 𝓡 =
     (cited 𝓤 H (Command 𝓤 H (𝓖 .A) (𝓜 .mem) (𝓡 .run)) 𝓜 𝓡 code.env #view·command command-def.routine code.calls-frame·command (command-thm.met 𝓤 H 𝓜 𝓖 𝓡))
     (cited 𝓤 H (Part 𝓤 H (𝓖 .A) (𝓜 .mem) (𝓡 .run)) 𝓜 𝓡 code.env #view·data part-def.routine code.calls-frame·data (part-thm.met 𝓤 H 𝓜 𝓖 𝓡))
     (cited 𝓤 H (Refusal 𝓤 H (𝓖 .A) (𝓜 .mem) (𝓡 .run)) 𝓜 𝓡 code.env #view·refusal refusal-def.routine code.calls-frame·refusal (refusal-thm.met 𝓤 H 𝓜 𝓖 𝓡))
+    (cited 𝓤 H (BrokenAt 𝓤 H (𝓖 .A) (𝓜 .mem) (𝓡 .run)) 𝓜 𝓡 code.env #view·broken-at broken-at-def.routine code.calls-frame·broken-at (broken-at-thm.met 𝓤 H 𝓜 𝓖 𝓡))
     (cited 𝓤 H (Shown 𝓤 H (𝓖 .A) (𝓜 .mem) (𝓡 .run)) 𝓜 𝓡 code.env #framing·shown shown-def.routine code.calls-framing·shown (shown-thm.met 𝓤 H 𝓜 𝓖 𝓡)))

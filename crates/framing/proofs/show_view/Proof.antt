@@ -59,20 +59,29 @@ slice-aggregate-bytes-line-8 c = search needs
 bytes-line-requires-2 : tie.Need-bytes-line-requires-2
 bytes-line-requires-2 c κs = search needs
 
-slice-aggregate-append-numbered : tie.Need-slice-aggregate-append-numbered
-slice-aggregate-append-numbered c = search needs
+slice-aggregate-append-decimal : tie.Need-slice-aggregate-append-decimal
+slice-aggregate-append-decimal c = search needs
 
-slice-aggregate-append-numbered-2 : tie.Need-slice-aggregate-append-numbered-2
-slice-aggregate-append-numbered-2 c = search needs
+cast-append-decimal : tie.Need-cast-append-decimal
+cast-append-decimal c = search needs
 
-cast-append-numbered : tie.Need-cast-append-numbered
-cast-append-numbered c = search needs
+append-decimal-requires : tie.Need-append-decimal-requires
+append-decimal-requires c κs = search needs
 
-slice-aggregate-append-numbered-3 : tie.Need-slice-aggregate-append-numbered-3
-slice-aggregate-append-numbered-3 c = search needs
+slice-aggregate-append-places : tie.Need-slice-aggregate-append-places
+slice-aggregate-append-places c = search needs
 
-append-numbered-requires : tie.Need-append-numbered-requires
-append-numbered-requires c κs = search needs
+append-places-requires : tie.Need-append-places-requires
+append-places-requires c κs = search needs
+
+slice-aggregate-append-2 : tie.Need-slice-aggregate-append-2
+slice-aggregate-append-2 c = search needs
+
+slice-aggregate-append-3 : tie.Need-slice-aggregate-append-3
+slice-aggregate-append-3 c = search needs
+
+append-requires-2 : tie.Need-append-requires-2
+append-requires-2 c κs = search needs
 
 slice-aggregate-print : tie.Need-slice-aggregate-print
 slice-aggregate-print c = search needs
@@ -105,11 +114,14 @@ show-view-spec =
     part-bytes-line-end
     slice-aggregate-bytes-line-8
     bytes-line-requires-2
-    slice-aggregate-append-numbered
-    slice-aggregate-append-numbered-2
-    cast-append-numbered
-    slice-aggregate-append-numbered-3
-    append-numbered-requires
+    slice-aggregate-append-decimal
+    cast-append-decimal
+    append-decimal-requires
+    slice-aggregate-append-places
+    append-places-requires
+    slice-aggregate-append-2
+    slice-aggregate-append-3
+    append-requires-2
     slice-aggregate-print
     print-requires
     returns-2)

@@ -9,7 +9,7 @@ use native.Mathlib.Omega.{arith}
 use lib.ListN.{length, take, drop, set, getD, length-set, drop-of-length-le}
 use lib.Seq.{length-take-le, take-take, take-suc-set, drop-cons}
 use borrow.Author.Tests.{lt-ltb, ne-eqb}
-use Rattle.line.specs.declared.Fault.{Fault}
+use Rattle.line.specs.Places.{FaultAt}
 use Rattle.line.specs.declared.Mode.{Mode}
 use Rattle.line.specs.declared.Mode.the-variants.{Plain, Escaped, Skipping}
 use Rattle.line.specs.declared.PacketOutcome.{PacketOutcome as Given}
@@ -99,7 +99,7 @@ runs-more bs n w i cs k x l p q r =
 -- ---- a run of skipped bytes
 
 -- a byte that is no END
-pub skip-step : (f : Fault) (b : ℕ) → (b ≡ END → ⊥) → step (skipping f) b ≡ (skipping f, none)
+pub skip-step : (f : FaultAt) (b : ℕ) → (b ≡ END → ⊥) → step (skipping f) b ≡ (skipping f, none)
 unfolding step inner
 skip-step f b x = rw (ne-eqb b END x)
 

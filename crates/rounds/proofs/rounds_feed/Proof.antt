@@ -9,12 +9,12 @@ use Rattle.rounds.proofs.rounds_feed.Tie as tie
 
 -- So many rounds are made as are not left, from what the login left; the lent memory keeps its length.
 abbrev Inv-loop : tie.InvT-loop
-Inv-loop table₀ login bytes room₀ rounds held₀ count kept₀ place₀ len₀ left₀ table room held kept place len left =
+Inv-loop table₀ login bytes room₀ rounds held₀ count kept₀ cursor₀ len₀ left₀ table room held kept cursor len left =
     (length table ≡ length table₀) × (length room ≡ length room₀)
-    × Made (Fed bytes) rounds left (record { hub = kept₀; table = table₀; reading = readingAt held₀ place₀; room = room₀ }) len (record { hub = kept; table = table; reading = readingAt held place; room = room })
+    × Made (Fed bytes) rounds left (record { hub = kept₀; table = table₀; reading = readingAt held₀ cursor₀; room = room₀ }) len (record { hub = kept; table = table; reading = readingAt held cursor; room = room })
 
 abbrev μ-loop : tie.MeasureT-loop
-μ-loop table₀ login bytes room₀ rounds held₀ count kept₀ place₀ len₀ left₀ table room held kept place len left = left
+μ-loop table₀ login bytes room₀ rounds held₀ count kept₀ cursor₀ len₀ left₀ table room held kept cursor len left = left
 
 first-requires : tie.Need-first-requires Inv-loop μ-loop
 first-requires c κs = search needs

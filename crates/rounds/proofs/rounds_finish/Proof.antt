@@ -9,12 +9,12 @@ use Rattle.rounds.proofs.rounds_finish.Tie as tie
 
 -- So many rounds are made as are not left, from what the login left; the lent memory keeps its length.
 abbrev Inv-loop : tie.InvT-loop
-Inv-loop table₀ login bytes session room₀ rounds held₀ count kept₀ place₀ len₀ left₀ table room held kept place len left =
+Inv-loop table₀ login bytes session room₀ rounds held₀ count kept₀ cursor₀ len₀ left₀ table room held kept cursor len left =
     (length table ≡ length table₀) × (length room ≡ length room₀)
-    × Made (Sent bytes session) rounds left (record { hub = kept₀; table = table₀; reading = readingAt held₀ place₀; room = room₀ }) len (record { hub = kept; table = table; reading = readingAt held place; room = room })
+    × Made (Sent bytes session) rounds left (record { hub = kept₀; table = table₀; reading = readingAt held₀ cursor₀; room = room₀ }) len (record { hub = kept; table = table; reading = readingAt held cursor; room = room })
 
 abbrev μ-loop : tie.MeasureT-loop
-μ-loop table₀ login bytes session room₀ rounds held₀ count kept₀ place₀ len₀ left₀ table room held kept place len left = left
+μ-loop table₀ login bytes session room₀ rounds held₀ count kept₀ cursor₀ len₀ left₀ table room held kept cursor len left = left
 
 first-requires : tie.Need-first-requires Inv-loop μ-loop
 first-requires c κs = search needs
@@ -41,7 +41,7 @@ loop-less : tie.Need-loop-less Inv-loop μ-loop
 loop-less c = search needs
 
 loop-again : tie.Need-loop-again Inv-loop μ-loop
-loop-again c = (search needs, search needs, made-more (Sent (c .before .before .before .before .before .before .before .before .before .before .before .before .before .before .before .before .before .before .before .before .before .before .before .before .before .before .before .before .before .before .before .before .args .bytes .now) (c .before .before .before .before .before .before .before .before .before .before .before .before .before .before .before .before .before .before .before .before .before .before .before .before .before .before .before .before .before .before .before .before .args .session)) _ _ _ _ _ _ _ (c .before .before .before .before .before .before .before .before .before .before .before .before .before .before .before .before .loop .inv .2) (c .before .before .before .before .before .before .before .before .before .before .before .before .before .before .before .loop-test .taken) (record { reply = _; between = record { hub = c .before .before .before .before .before .before .before .before .before .before .before .feed-in2 .result .hub; table = _; reading = readingAt _ (c .before .before .before .before .before .before .before .before .before .before .before .feed-in2 .result .place); room = _ }; fed = record { answer = c .before .before .before .before .before .before .before .before .before .before .before .feed-in2 .result .answer; feeds = c .before .before .before .before .before .before .before .before .before .before .before .feed-in2 .ensures; length = refl }; finished = record { answer = c .before .before .before .before .finish .result .answer; finishes = c .before .before .before .before .finish .ensures; table = refl; reading = refl; length = c .finished-len .ensures } }))
+loop-again c = (search needs, search needs, made-more (Sent (c .before .before .before .before .before .before .before .before .before .before .before .before .before .before .before .before .before .before .before .before .before .before .before .before .before .before .before .before .before .before .before .before .args .bytes .now) (c .before .before .before .before .before .before .before .before .before .before .before .before .before .before .before .before .before .before .before .before .before .before .before .before .before .before .before .before .before .before .before .before .args .session)) _ _ _ _ _ _ _ (c .before .before .before .before .before .before .before .before .before .before .before .before .before .before .before .before .loop .inv .2) (c .before .before .before .before .before .before .before .before .before .before .before .before .before .before .before .loop-test .taken) (record { reply = _; between = record { hub = c .before .before .before .before .before .before .before .before .before .before .before .feed-in2 .result .hub; table = _; reading = readingAt _ (c .before .before .before .before .before .before .before .before .before .before .before .feed-in2 .result .cursor); room = _ }; fed = record { answer = c .before .before .before .before .before .before .before .before .before .before .before .feed-in2 .result .answer; feeds = c .before .before .before .before .before .before .before .before .before .before .before .feed-in2 .ensures; length = refl }; finished = record { answer = c .before .before .before .before .finish .result .answer; finishes = c .before .before .before .before .finish .ensures; table = refl; reading = refl; length = c .finished-len .ensures } }))
 
 same-length : tie.Need-same-length Inv-loop μ-loop
 same-length c = search needs

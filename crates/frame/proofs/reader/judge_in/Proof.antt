@@ -5,9 +5,9 @@ use native.Mathlib.Nat.{sub-zero}
 use native.Mathlib.Omega.{arith}
 use lib.ListN.{take, drop}
 use Rattle.line.specs.Reader.{limit}
-use Rattle.frame.specs.Frame.{refused}
+use Rattle.frame.specs.Frame.{Refusal, refused}
 use Rattle.frame.specs.Reader.{verdict}
-use Rattle.frame.specs.AnswerLaws.{cause-number}
+use Rattle.frame.specs.AnswerLaws.{fault-refusal}
 use Rattle.frame.proofs.reader.Laws.{judging}
 use borrow.Author.Needs.{needs}
 use Rattle.frame.proofs.reader.judge_in.Statement.{statement}
@@ -41,8 +41,8 @@ outcome-of-requires c κs = search needs
 enum-known-got-2 : tie.Need-enum-known-got-2
 enum-known-got-2 c = search needs
 
-cause-of-requires : tie.Need-cause-of-requires
-cause-of-requires c κs = search needs
+refusal-of-requires : tie.Need-refusal-of-requires
+refusal-of-requires c κs = search needs
 
 returns : tie.Need-returns
 unfolding verdict
@@ -57,7 +57,7 @@ returns-2 c =
 
 returns-3 : tie.Need-returns-3
 unfolding verdict
-returns-3 c = record { told = rw (c .before .before .got2 .given .1, c .cause-of .ensures) (ap (λ (n : ℕ). some (refused n)) (cause-number (c .before .before .got2 .given .0 .0))); within = tt; whole = tt; full = c .before .before .before .before .before .pre .0 }
+returns-3 c = record { told = rw (c .before .before .got2 .given .1, c .refusal-of .ensures) (ap (λ (n : Refusal). some (refused n)) (fault-refusal (c .before .before .got2 .given .0 .0))); within = tt; whole = tt; full = c .before .before .before .before .before .pre .0 }
 
 pub judge-in-spec : {M : Type 1} → statement M
 judge-in-spec =
@@ -71,7 +71,7 @@ judge-in-spec =
     judge-requires
     outcome-of-requires
     enum-known-got-2
-    cause-of-requires
+    refusal-of-requires
     returns
     returns-2
     returns-3)

@@ -69,7 +69,7 @@ module _ {M : Type 1} (𝓤 : URA M) (H : Heap 𝓤) (A : Atoms 𝓤) (W : Given
   L = T′.the-laws (namedLft 1 0 tt (κ, tt))
 
   abbrev vd : Values (D .parts)
-  vd = (d .command, (d .«data», (d .refusal, tt)))
+  vd = (d .command, (d .«data», (d .refusal, (d .at, tt))))
 
   exits : ent 𝓤 (onEntry 𝓤 H A shown.signature (κ, tt) (q, tt) (d, tt) (mach ∷ [], tt)) (Post v)
   exits =

@@ -4,6 +4,7 @@ use mathlib.Core.List.{[], _∷_}
 use native.Mathlib.Omega.{arith}
 use lib.ListN.{length}
 use Rattle.line.specs.Wire.{escape}
+use Rattle.line.specs.Places.{wireLength}
 use Rattle.line.specs.WireLaws.{escape-short}
 use Rattle.frame.specs.Frame.{headOf}
 use Rattle.frame.specs.WireLaws.{head-length}
@@ -14,6 +15,7 @@ use Rattle.frame.proofs.writer.head_len.Tie as tie
 -- what the parts come to
 whole : (c : tie.After-width3)
     → let s : tie.Start = c .before .before .before in 1 + c .before .before .width .result + c .before .width2 .result + c .width3 .result ≡ length (escape (headOf (s .args .command) (s .args .n)))
+unfolding wireLength
 whole c =
     let s = c .before .before .before in
     omega (arith, c .before .before .width .ensures, c .before .width2 .ensures, c .width3 .ensures, head-length (s .args .command) (s .args .n))
@@ -28,6 +30,7 @@ width-requires : tie.Need-width-requires
 width-requires c κs = search needs
 
 add-result : tie.Need-add-result
+unfolding wireLength
 add-result c = omega (arith, c .width .ensures, escape-short ((c .before .args .n + 3) ∷ []))
 
 cast-width-2 : tie.Need-cast-width-2
@@ -37,6 +40,7 @@ width-requires-2 : tie.Need-width-requires-2
 width-requires-2 c κs = search needs
 
 add-result-2 : tie.Need-add-result-2
+unfolding wireLength
 add-result-2 c =
     let s = c .before .before in
     omega (arith, c .before .width .ensures, c .width2 .ensures, escape-short ((s .args .n + 3) ∷ []), escape-short (s .args .command / 256 ∷ []))

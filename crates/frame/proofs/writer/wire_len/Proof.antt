@@ -4,6 +4,7 @@ use mathlib.Core.List.{List, [], _∷_}
 use native.Mathlib.Omega.{arith}
 use lib.ListN.{length}
 use Rattle.line.specs.Wire.{escape}
+use Rattle.line.specs.Places.{wireLength}
 use Rattle.frame.specs.Frame.{wire}
 use Rattle.frame.specs.Writer.{check, roomForAny}
 use Rattle.frame.specs.WireLaws.{wire-length, wire-fits}
@@ -25,6 +26,7 @@ module _ (s : tie.Start) where
 
 -- the check byte, escaped
 check-len : (c : tie.After-width) → let s : tie.Start = c .before .before .before .before .before in c .width .result ≡ length (escape (check (command s) (payload s) ∷ []))
+unfolding wireLength
 check-len c = c .width .ensures ∙ ap (λ (n : ℕ). length (escape (n ∷ []))) (c .before .check-of .ensures)
 
 -- what the parts come to

@@ -13,27 +13,27 @@ use Rattle.lister.proofs.capture.list.Tie as tie
 -- What was used and written so far is what the definition gives of those bytes. A call on the rest uses at least one byte more, and its
 -- line fits, for there is room for any line.
 abbrev Inv-loop : tie.InvT-loop
-Inv-loop left wire out₀ bytes₀ place₀ at₀ written₀ out bytes place at written = Going (takenAs bytes₀ (place₀ .count) (place₀ .mode)) wire out₀ out bytes place at written
+Inv-loop left wire out₀ bytes₀ cursor₀ at₀ written₀ out bytes cursor at written = Going (takenAs bytes₀ (cursor₀ .count) (cursor₀ .mode)) wire out₀ out bytes cursor at written
 
 abbrev μ-loop : tie.MeasureT-loop
-μ-loop left wire out₀ bytes₀ place₀ at₀ written₀ out bytes place at written = length wire - at
+μ-loop left wire out₀ bytes₀ cursor₀ at₀ written₀ out bytes cursor at written = length wire - at
 
 -- the state that the lent record is taken as
-started : (c : tie.After-taken-place Inv-loop μ-loop)
-    → taken (c .before .before .before .before .args .reading) ≡ takenAs (c .before .before .before .before .args .reading .bytes) (c .taken-place .result .count) (c .taken-place .result .mode)
-started c = sym (takes-state _ _ _ (c .taken-place .ensures))
+started : (c : tie.After-taken-cursor Inv-loop μ-loop)
+    → taken (c .before .before .before .before .args .reading) ≡ takenAs (c .before .before .before .before .args .reading .bytes) (c .taken-cursor .result .count) (c .taken-cursor .result .mode)
+started c = sym (takes-state _ _ _ (c .taken-cursor .ensures))
 
 -- a call on the rest of the bytes
 rest-used : (c : tie.After-read-in Inv-loop μ-loop)
-    → MoreUsed (takenAs (c .before .before .before .before .before .before .before .before .before .before .args .reading .bytes) (c .before .before .before .before .before .before .taken-place .result .count) (c .before .before .before .before .before .before .taken-place .result .mode))
+    → MoreUsed (takenAs (c .before .before .before .before .before .before .before .before .before .before .args .reading .bytes) (c .before .before .before .before .before .before .taken-cursor .result .count) (c .before .before .before .before .before .before .taken-cursor .result .mode))
     (c .before .before .before .before .before .before .before .before .before .before .args .wire .now) (c .before .before .before .before .before .loop .at) (c .read-in .last .0) (c .read-in .result)
 rest-used c = more-used _ _ _ _ _ _ (c .before .before .before .before .loop-test .taken) (c .before .before .before .before .before .loop .inv .state) (c .read-in .ensures)
 
-taken-place-requires : tie.Need-taken-place-requires Inv-loop μ-loop
-taken-place-requires c κs = search needs
+taken-cursor-requires : tie.Need-taken-cursor-requires Inv-loop μ-loop
+taken-cursor-requires c κs = search needs
 
 loop-holds : tie.Need-loop-holds Inv-loop μ-loop
-loop-holds c = going-none _ _ _ (search needs) (c .taken-place .ensures)
+loop-holds c = going-none _ _ _ (search needs) (c .taken-cursor .ensures)
 
 sub-if1 : tie.Need-sub-if1 Inv-loop μ-loop
 sub-if1 c = let g = c .before .loop .inv .fits in omega (arith, kept (c .before .loop .inv .wrote))
@@ -88,7 +88,7 @@ list-spec =
     (tie.spec
     Inv-loop
     μ-loop
-    taken-place-requires
+    taken-cursor-requires
     loop-holds
     sub-if1
     answer-requires

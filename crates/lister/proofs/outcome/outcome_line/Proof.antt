@@ -1,3 +1,5 @@
+use native.Mathlib.Omega.{arith}
+use Rattle.lister.specs.LinesLaws.{frameLine-short, refusedLine-short}
 use Rattle.lister.specs.ListingLaws.{leaves-nothing}
 use borrow.Author.Needs.{needs}
 use Rattle.lister.proofs.outcome.outcome_line.Statement.{statement}
@@ -22,19 +24,24 @@ refused-line-requires : tie.Need-refused-line-requires
 refused-line-requires c κs = search needs
 
 returns : tie.Need-returns
-returns c = rw (c .enum-told .given .1) (leaves-nothing _ _)
+returns c = rw (c .enum-told .given .1) (record { line = leaves-nothing _ _; short = omega arith })
 
 same-length : tie.Need-same-length
 same-length c = search needs
 
 returns-2 : tie.Need-returns-2
-returns-2 c = rw (c .before .before .before .before .before .outcome .given .1) (c .before .before .frame-line .ensures)
+returns-2 c = rw (c .before .before .before .before .before .outcome .given .1) (record { line = c .before .before .frame-line .ensures; short = frameLine-short _ _ (omega arith) })
 
 same-length-2 : tie.Need-same-length-2
 same-length-2 c = search needs
 
 returns-3 : tie.Need-returns-3
-returns-3 c = rw (c .before .before .before .before .before .before .outcome2 .given .1) (rw (c .before .before .before .number .ensures) at (c .before .before .refused-line .ensures))
+returns-3 c =
+    rw (c .before .before .before .before .before .before .before .outcome2 .given .1)
+    (record {
+      line = rw (c .before .before .before .number .ensures) at (c .before .before .refused-line .ensures);
+      short = refusedLine-short _ _ (omega (arith, c .before .before .before .number .ensures)) (omega arith) (omega arith);
+    })
 
 pub outcome-line-spec : {M : Type 1} → statement M
 outcome-line-spec =

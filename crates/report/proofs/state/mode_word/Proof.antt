@@ -27,6 +27,7 @@ unfolding modeWord ascii
 returns-2 c = rw (c .before .before .enum-told2 .given .1) (record { within = omega arith; text = refl })
 
 returns-3 : tie.Need-returns-3
+unfolding modeWord
 returns-3 c = rw (c .before .before .mode .given .1) (c .skip-word .ensures)
 
 pub mode-word-spec : {M : Type 1} → statement M

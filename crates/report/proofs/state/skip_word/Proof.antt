@@ -1,7 +1,7 @@
 use mathlib.Core.Path.{refl}
 use native.Mathlib.Omega.{arith}
 use Rattle.text.specs.Text.{ascii}
-use Rattle.report.specs.State.{modeWord}
+use Rattle.report.specs.State.{skipWord}
 use borrow.Author.Needs.{needs}
 use Rattle.report.proofs.state.skip_word.Statement.{statement}
 use Rattle.report.proofs.state.skip_word.Tie as tie
@@ -13,11 +13,11 @@ enum-told-2 : tie.Need-enum-told-2
 enum-told-2 c = search needs
 
 returns : tie.Need-returns
-unfolding modeWord ascii
+unfolding skipWord ascii
 returns c = rw (c .before .before .enum-told .given .1) (record { within = omega arith; text = refl })
 
 returns-2 : tie.Need-returns-2
-unfolding modeWord ascii
+unfolding skipWord ascii
 returns-2 c = rw (c .before .before .enum-told2 .given .1) (record { within = omega arith; text = refl })
 
 pub skip-word-spec : {M : Type 1} → statement M

@@ -12,13 +12,13 @@ refused-requires : tie.Need-refused-requires
 refused-requires c κs = search needs
 
 returns : tie.Need-returns
-returns c = rw (c .refused .ensures) (refused-feeds _ _ _ _ _ _ _ (refused-table (c .before .before .before .before .before .args .hub) (c .before .before .before .before .before .args .table .now) (taken (readingAt (c .before .before .before .before .before .args .held .now) (c .before .before .before .before .before .args .place))) (c .before .before .before .before .before .args .line) (c .before .before .before .before .before .args .bytes .now) (length (c .before .before .before .before .before .args .room .now)) (c .before .if1 .taken)))
+returns c = rw (c .refused .ensures) (refused-feeds _ _ _ _ _ _ _ (refused-table (c .before .before .before .before .before .args .hub) (c .before .before .before .before .before .args .table .now) (taken (readingAt (c .before .before .before .before .before .args .held .now) (c .before .before .before .before .before .args .cursor))) (c .before .before .before .before .before .args .line) (c .before .before .before .before .before .args .bytes .now) (length (c .before .before .before .before .before .args .room .now)) (c .before .if1 .taken)))
 
 refused-requires-2 : tie.Need-refused-requires-2
 refused-requires-2 c κs = search needs
 
 returns-2 : tie.Need-returns-2
-returns-2 c = rw (c .refused2 .ensures) (refused-feeds _ _ _ _ _ _ _ (refused-line (c .before .before .before .before .before .before .args .hub) (c .before .before .before .before .before .before .args .table .now) (taken (readingAt (c .before .before .before .before .before .before .args .held .now) (c .before .before .before .before .before .before .args .place))) (c .before .before .before .before .before .before .args .line) (c .before .before .before .before .before .before .args .bytes .now) (length (c .before .before .before .before .before .before .args .room .now)) (c .before .before .if1 .left) (omega (arith, c .before .if2 .taken))))
+returns-2 c = rw (c .refused2 .ensures) (refused-feeds _ _ _ _ _ _ _ (refused-line (c .before .before .before .before .before .before .args .hub) (c .before .before .before .before .before .before .args .table .now) (taken (readingAt (c .before .before .before .before .before .before .args .held .now) (c .before .before .before .before .before .before .args .cursor))) (c .before .before .before .before .before .before .args .line) (c .before .before .before .before .before .before .args .bytes .now) (length (c .before .before .before .before .before .before .args .room .now)) (c .before .before .if1 .left) (omega (arith, c .before .if2 .taken))))
 
 serve-requires : tie.Need-serve-requires
 serve-requires c κs = (c .before .before .before .before .if1 .left, omega (arith, c .before .before .before .if2 .left))

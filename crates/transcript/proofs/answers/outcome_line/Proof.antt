@@ -43,7 +43,7 @@ same-length-3 c = search needs
 
 returns-3 : tie.Need-returns-3
 unfolding outcomeLine
-returns-3 c = rw (c .before .before .before .before .before .before .outcome2 .given .1, ← c .before .before .before .number .ensures) (c .before .before .packet-line .ensures)
+returns-3 c = rw (c .before .before .before .before .before .before .before .outcome2 .given .1, ← c .before .before .before .number .ensures) (c .before .before .packet-line .ensures)
 
 pub outcome-line-spec : {M : Type 1} → statement M
 outcome-line-spec =

@@ -10,8 +10,8 @@ use Rattle.transcript.specs.StateLaws.{held-at, modeOf-at}
 use Rattle.transcript.proofs.state.show_reading.Statement.{statement}
 use Rattle.transcript.proofs.state.show_reading.Tie as tie
 
-taken-place-requires : tie.Need-taken-place-requires
-taken-place-requires c κs = search needs
+taken-cursor-requires : tie.Need-taken-cursor-requires
+taken-cursor-requires c κs = search needs
 
 sub-reading-line : tie.Need-sub-reading-line
 sub-reading-line c = search needs
@@ -22,7 +22,7 @@ part-reading-line-start c = search needs
 part-reading-line-end : tie.Need-part-reading-line-end
 part-reading-line-end c =
     let long : length (c .before .before .before .before .before .args .reading .bytes) ≡ limit = search needs in
-    omega (arith, c .before .before .taken-place .ensures .within, long)
+    omega (arith, c .before .before .taken-cursor .ensures .within, long)
 
 reading-line-requires : tie.Need-reading-line-requires
 reading-line-requires c κs = search needs
@@ -34,7 +34,7 @@ returns : tie.Need-returns
 unfolding readingLines
 returns c =
     let r = c .before .before .before .before .before .before .before .before .before .args .reading in
-    let p = c .before .before .before .before .before .before .taken-place in
+    let p = c .before .before .before .before .before .before .taken-cursor in
     let state = p .ensures .state (r .bytes) in
     let whole : p .result .count - 0 ≡ p .result .count = omega arith in
     let line = rw whole at (c .before .before .reading-line .ensures) in
@@ -44,7 +44,7 @@ pub show-reading-spec : {M : Type 1} → statement M
 show-reading-spec =
     tie.close
     (tie.spec
-    taken-place-requires
+    taken-cursor-requires
     sub-reading-line
     part-reading-line-start
     part-reading-line-end
