@@ -3,6 +3,7 @@
 //! A capture is known by its name and a seed. The first indices of a kind
 //! are its systematic captures, the others are drawn.
 
+pub mod broken;
 pub mod damage;
 pub mod edges;
 pub mod frames;
@@ -45,10 +46,12 @@ pub enum Kind {
     Spliced,
     /// Drawn bytes, many of them special.
     Rich,
+    /// Packets that break in each way, with escapes around the place.
+    Broken,
 }
 
 impl Kind {
-    pub const ALL: [Kind; 11] = [
+    pub const ALL: [Kind; 12] = [
         Kind::Rows,
         Kind::Edges,
         Kind::Good,
@@ -60,6 +63,7 @@ impl Kind {
         Kind::Lost,
         Kind::Spliced,
         Kind::Rich,
+        Kind::Broken,
     ];
 
     pub fn name(self) -> &'static str {
@@ -75,6 +79,7 @@ impl Kind {
             Kind::Lost => "lost",
             Kind::Spliced => "spliced",
             Kind::Rich => "rich",
+            Kind::Broken => "broken",
         }
     }
 
@@ -95,6 +100,7 @@ impl Kind {
             Kind::Inserted => damage::count(Damage::Inserted),
             Kind::Lost => damage::count(Damage::Lost),
             Kind::Spliced | Kind::Rich => 0,
+            Kind::Broken => broken::COUNT,
         }
     }
 
@@ -161,6 +167,7 @@ pub fn capture(kind: Kind, seed: u64, index: usize) -> Vec<u8> {
         Kind::Lost => damage::capture(Damage::Lost, index, random),
         Kind::Spliced => noise::spliced(random),
         Kind::Rich => noise::rich(random),
+        Kind::Broken => broken::capture(index, random),
     }
 }
 

@@ -5,6 +5,8 @@
 //! replay program with its own byte for byte, and measures them.
 
 pub mod arguments;
+pub mod breaks;
+pub mod by_refusal;
 pub mod difference;
 pub mod directory;
 pub mod drive;
@@ -14,7 +16,6 @@ pub mod input;
 pub mod mix;
 pub mod outcome;
 pub mod paper;
-pub mod places;
 pub mod plain;
 pub mod random;
 pub mod reach;

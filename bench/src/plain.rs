@@ -3,22 +3,30 @@
 //! It is the other side of the benchmark. Its array is cleared once, when
 //! the reader is made, and never between packets.
 
-use std::io::{self, BufWriter, ErrorKind, Read, Write};
+use std::io::{self, ErrorKind, Read, Write};
 
-use crate::outcome::{Outcome, Refusal, END, ESC, ESC_END, ESC_ESC, FRAME_LEAST, PACKET_MOST};
+use crate::outcome::{
+    Broken, DecodedPlace, Outcome, Refusal, WirePlace, END, ESC, ESC_END, ESC_ESC, FRAME_LEAST,
+    PACKET_MOST,
+};
 
 /// The size of the buffers on both sides of the listing.
 const BUFFER: usize = 64 * 1024;
+/// More bytes than a line of the listing has.
+const LINE_MOST: usize = 32;
 
 /// What the next byte means.
 #[derive(Clone, Copy, Debug, PartialEq, Eq)]
 pub enum Mode {
     Taking,
     Escaped,
-    Skipping(Refusal),
+    Skipping(Broken),
 }
 
 /// The reading state of one line.
+///
+/// It counts no wire bytes: how many an open piece has follows from the bytes
+/// held. A piece that is skipped holds none, but the places of its fault.
 #[derive(Clone)]
 pub struct Reader {
     held: [u8; PACKET_MOST],
@@ -100,7 +108,7 @@ impl Reader {
         match byte {
             ESC_END => self.hold(END),
             ESC_ESC => self.hold(ESC),
-            _ => self.mode = Mode::Skipping(Refusal::WrongEscape),
+            _ => self.mode = Mode::Skipping(wrong_escape(&self.held[..self.count])),
         }
     }
 
@@ -110,7 +118,7 @@ impl Reader {
             *place = byte;
             self.count += 1;
         } else {
-            self.mode = Mode::Skipping(Refusal::TooLong);
+            self.mode = Mode::Skipping(broken(Refusal::TooLong, &self.held));
         }
     }
 
@@ -119,8 +127,8 @@ impl Reader {
         let outcome = match self.mode {
             Mode::Taking if self.count == 0 => None,
             Mode::Taking => Some(judge(&self.held[..self.count])),
-            Mode::Escaped => Some(Outcome::Refused(Refusal::WrongEscape)),
-            Mode::Skipping(refusal) => Some(Outcome::Refused(refusal)),
+            Mode::Escaped => Some(Outcome::Refused(wrong_escape(&self.held[..self.count]))),
+            Mode::Skipping(broken) => Some(Outcome::Refused(broken)),
         };
         self.count = 0;
         self.mode = Mode::Taking;
@@ -130,24 +138,51 @@ impl Reader {
 
 #[inline]
 fn judge(packet: &[u8]) -> Outcome {
-    let refusal = match *packet {
-        _ if packet.len() < FRAME_LEAST => Refusal::Short,
-        [protocol, ..] if protocol != 0 => Refusal::Protocol,
-        [_, length, ..] if packet.len() != length as usize + 2 => Refusal::Length,
-        _ if packet.iter().fold(0, |sum, byte| sum ^ byte) != 0 => Refusal::Check,
+    let count = packet.len();
+    let (refusal, place) = match *packet {
+        _ if count < FRAME_LEAST => (Refusal::Short, count),
+        [protocol, ..] if protocol != 0 => (Refusal::Protocol, 0),
+        [_, length, ..] if length as usize + 2 > count => (Refusal::Shorter, count),
+        [_, length, ..] if length as usize + 2 < count => (Refusal::Longer, length as usize + 2),
+        _ if packet.iter().fold(0, |sum, byte| sum ^ byte) != 0 => (Refusal::Check, count - 1),
         _ => {
             return Outcome::Frame {
                 command: u16::from(packet[2]) << 8 | u16::from(packet[3]),
-                data: packet.len() - FRAME_LEAST,
+                data: count - FRAME_LEAST,
             }
         }
     };
-    Outcome::Refused(refusal)
+    Outcome::Refused(broken(refusal, &packet[..place]))
+}
+
+/// A refusal told at the byte behind these decoded ones, or at the END.
+fn broken(refusal: Refusal, before: &[u8]) -> Broken {
+    Broken {
+        refusal,
+        wire: WirePlace(wire_bytes(before)),
+        decoded: DecodedPlace(before.len()),
+    }
+}
+
+/// The wrong escape whose ESC stands behind these decoded bytes. It is told
+/// at the byte after ESC.
+fn wrong_escape(before: &[u8]) -> Broken {
+    Broken {
+        wire: WirePlace(wire_bytes(before) + 1),
+        ..broken(Refusal::WrongEscape, before)
+    }
+}
+
+/// The number of wire bytes that decoded ones came as: two for an END or ESC,
+/// one for each other.
+fn wire_bytes(decoded: &[u8]) -> usize {
+    let escaped = decoded.iter().filter(|&&byte| byte == END || byte == ESC);
+    decoded.len() + escaped.count()
 }
 
 /// Lists a capture: a line for each outcome, then the bytes left.
-pub fn list(mut input: impl Read, output: impl Write) -> io::Result<()> {
-    let mut output = BufWriter::with_capacity(BUFFER, output);
+pub fn list(mut input: impl Read, mut output: impl Write) -> io::Result<()> {
+    let mut lines = Vec::with_capacity(BUFFER);
     let mut buffer = vec![0; BUFFER];
     let mut reader = Reader::new();
     let mut left = 0;
@@ -156,19 +191,32 @@ pub fn list(mut input: impl Read, output: impl Write) -> io::Result<()> {
             Ok(0) => break,
             Ok(count) => count,
             Err(error) if error.kind() == ErrorKind::Interrupted => continue,
-            Err(error) => return Err(error),
+            Err(error) => {
+                output.write_all(&lines)?;
+                return Err(error);
+            }
         };
-        list_part(&mut reader, &buffer[..count], &mut output)?;
+        list_part(&mut reader, &buffer[..count], &mut lines, &mut output)?;
         left = left_behind(left, &buffer[..count]);
     }
-    writeln!(output, "left {left}")?;
+    writeln!(lines, "left {left}")?;
+    output.write_all(&lines)?;
     output.flush()
 }
 
-fn list_part(reader: &mut Reader, part: &[u8], output: &mut impl Write) -> io::Result<()> {
+fn list_part(
+    reader: &mut Reader,
+    part: &[u8],
+    lines: &mut Vec<u8>,
+    output: &mut impl Write,
+) -> io::Result<()> {
     for &byte in part {
         if let Some(outcome) = reader.push(byte) {
-            write_line(outcome, output)?;
+            if lines.len() + LINE_MOST > BUFFER {
+                output.write_all(lines)?;
+                lines.clear();
+            }
+            add_line(outcome, lines);
         }
     }
     Ok(())
@@ -182,33 +230,40 @@ fn left_behind(left: u64, part: &[u8]) -> u64 {
     }
 }
 
-/// Writes the line of an outcome, byte by byte to keep formatting cheap.
+/// Adds the line of an outcome, byte by byte to keep formatting cheap.
 #[inline]
-fn write_line(outcome: Outcome, output: &mut impl Write) -> io::Result<()> {
+fn add_line(outcome: Outcome, lines: &mut Vec<u8>) {
     match outcome {
-        Outcome::Frame { command, data } => write_frame(command, data as u8, output),
-        Outcome::Refused(refusal) => {
-            let mut line = *b"refused 0\n";
-            line[8] += refusal as u8;
-            output.write_all(&line)
+        Outcome::Frame { command, data } => {
+            let digit = |bits| b"0123456789ABCDEF"[usize::from(command >> bits) & 15];
+            lines.extend(b"frame ");
+            lines.extend([12, 8, 4, 0].map(digit));
+            lines.extend(b" data ");
+            add_number(data, lines);
+        }
+        Outcome::Refused(broken) => {
+            lines.extend(b"refused ");
+            add_number(broken.refusal as usize, lines);
+            lines.extend(b" at ");
+            add_number(broken.wire.0, lines);
+            lines.push(b' ');
+            add_number(broken.decoded.0, lines);
         }
     }
+    lines.push(b'\n');
 }
 
-fn write_frame(command: u16, data: u8, output: &mut impl Write) -> io::Result<()> {
-    let mut line = *b"frame 0000 data 000\n";
-    for (place, digit) in line[6..10].iter_mut().enumerate() {
-        *digit = b"0123456789ABCDEF"[usize::from(command >> (12 - 4 * place)) & 15];
+/// Adds a number below 1000 in decimal.
+#[inline]
+fn add_number(number: usize, lines: &mut Vec<u8>) {
+    let digit = |number: usize| b'0' + (number % 10) as u8;
+    if number >= 100 {
+        lines.push(digit(number / 100));
     }
-    let digits = [data / 100, data / 10 % 10, data % 10].map(|digit| b'0' + digit);
-    let shown = match data {
-        0..=9 => &digits[2..],
-        10..=99 => &digits[1..],
-        _ => &digits[..],
-    };
-    line[16..16 + shown.len()].copy_from_slice(shown);
-    line[16 + shown.len()] = b'\n';
-    output.write_all(&line[..17 + shown.len()])
+    if number >= 10 {
+        lines.push(digit(number / 10));
+    }
+    lines.push(digit(number));
 }
 
 #[cfg(test)]

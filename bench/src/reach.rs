@@ -1,6 +1,7 @@
 //! What scripts reach: calls, refusals, statuses and bad lines, counted by
 //! the model while it answers.
 
+pub mod cuts;
 pub mod rooms;
 
 use std::collections::{BTreeMap, BTreeSet, HashMap};
@@ -15,13 +16,14 @@ use crate::plain::Reader;
 use crate::replay::call::{bad_words, Bad, BadWord, Call, LINE_MOST};
 use crate::replay::lines;
 use crate::replay::{mode_name, Replay, Told};
+use cuts::Cuts;
 use rooms::Rooms;
 
 /// Unknown numbers that must be sent in all.
 pub const UNKNOWN_LEAST: usize = 1000;
 
-/// Everything that is counted, bad words and rooms apart.
-const ROWS: [&str; 126] = [
+/// Everything that is counted, bad words, rooms and broken packets apart.
+const ROWS: [&str; 127] = [
     "start done",
     "start refused 7",
     "start refused 14",
@@ -63,6 +65,7 @@ const ROWS: [&str; 126] = [
     "packet 4",
     "packet 5",
     "packet 6",
+    "packet 15",
     "error 2: packet refused",
     "error 1: command unknown",
     "error 2: data length",
@@ -157,6 +160,7 @@ type Sent = (u16, usize, bool);
 pub struct Reach {
     counts: HashMap<&'static str, u64>,
     rooms: Rooms,
+    cuts: Cuts,
     bad_words: BTreeMap<BadWord, u64>,
     sent: BTreeSet<Sent>,
     unknown: BTreeSet<u16>,
@@ -170,6 +174,7 @@ impl Default for Reach {
         Reach {
             counts: all_rows().map(|row| (row, 0)).collect(),
             rooms: Rooms::default(),
+            cuts: Cuts::default(),
             bad_words: bad_words().into_iter().map(|word| (word, 0)).collect(),
             sent: BTreeSet::new(),
             unknown: BTreeSet::new(),
@@ -181,7 +186,7 @@ impl Default for Reach {
 }
 
 fn all_rows() -> impl Iterator<Item = &'static str> {
-    ROWS.into_iter().chain(rooms::ROWS)
+    ROWS.into_iter().chain(rooms::ROWS).chain(cuts::ROWS)
 }
 
 /// The data lengths to try with a command: its least and its greatest, and
@@ -211,6 +216,7 @@ impl Reach {
         let mut replay = Replay::new();
         let mut watch = Watch::default();
         let mut room_watch = rooms::Watch::default();
+        let mut cut_watch = cuts::Watch::default();
         let mut answers = Vec::new();
         let mut last = Told::Remark;
         for line in lines::all(script) {
@@ -222,6 +228,9 @@ impl Reach {
                 self.count_lent(&call);
                 self.count_told(&call, told, &replay);
                 self.count_state(&call, told, &replay, &mut watch);
+                for row in self.cuts.count(&call, told, &replay, &mut cut_watch) {
+                    self.count(&row);
+                }
                 for row in self.rooms.count(&call, told, &replay, &mut room_watch) {
                     self.count(row);
                 }
@@ -306,8 +315,8 @@ impl Reach {
                 }
                 match fed.outcome {
                     None => self.count("feed: no outcome"),
-                    Some(Outcome::Refused(refusal)) => {
-                        self.count(&format!("packet {}", refusal as u8))
+                    Some(Outcome::Refused(broken)) => {
+                        self.count(&format!("packet {}", broken.refusal as u8))
                     }
                     Some(Outcome::Frame { data, .. }) if data == DATA_MOST => {
                         self.count("feed: 250 data bytes")
@@ -417,6 +426,7 @@ impl Reach {
             *self.counts.entry(row).or_default() += count;
         }
         self.rooms.add(&other.rooms);
+        self.cuts.add(&other.cuts);
         for (word, count) in &other.bad_words {
             *self.bad_words.entry(*word).or_default() += count;
         }
@@ -434,6 +444,7 @@ impl Reach {
         let named = |(word, _): (&BadWord, _)| format!("{}: {}", place(word), word.why.name());
         rows.map(str::to_string)
             .chain(self.rooms.missing())
+            .chain(self.cuts.missing())
             .chain(words.map(named))
             .collect()
     }
@@ -538,14 +549,16 @@ fn freer(call: &Call, told: &Told) -> &'static str {
     }
 }
 
-/// A line for each row, for each kind of reply with its rooms and for each
-/// place of a bad word, and what was sent of the directory.
+/// A line for each row, for each kind of reply with its rooms, for each packet
+/// refusal with its places and its feeds and for each place of a bad word, and
+/// what was sent of the directory.
 impl fmt::Display for Reach {
     fn fmt(&self, out: &mut fmt::Formatter) -> fmt::Result {
         for row in all_rows() {
             writeln!(out, "{:>9}  {row}", self.counts[row])?;
         }
         write!(out, "{}", self.rooms)?;
+        write!(out, "{}{}", self.cuts.breaks, self.cuts.cuts)?;
         let mut places: BTreeMap<(&str, usize), Vec<(&BadWord, u64)>> = BTreeMap::new();
         for (word, &count) in &self.bad_words {
             let words = places.entry((word.call, word.number)).or_default();

@@ -208,11 +208,12 @@ impl Replay {
             }
         }
         for (line, record) in self.records.iter().enumerate() {
-            put(
-                answer,
-                format_args!("line {line} {} ", mode_name(record.mode())),
-            );
+            let mode = record.mode();
+            put(answer, format_args!("line {line} {} ", mode_name(mode)));
             write_bytes(record.held(), answer);
+            if let Mode::Skipping(broken) = mode {
+                put(answer, format_args!(" {}", broken.places()));
+            }
             answer.push(b'\n');
         }
         answer.extend(b"end");
@@ -274,7 +275,7 @@ pub fn mode_name(mode: Mode) -> &'static str {
     match mode {
         Mode::Taking => "plain",
         Mode::Escaped => "escaped",
-        Mode::Skipping(Refusal::WrongEscape) => "skip1",
+        Mode::Skipping(broken) if broken.refusal == Refusal::WrongEscape => "skip1",
         Mode::Skipping(_) => "skip2",
     }
 }
@@ -286,9 +287,7 @@ fn write_fed(fed: &Fed, reply: &[u8], answer: &mut Vec<u8>) {
         Some(Outcome::Frame { command, data }) => {
             put(answer, format_args!("frame {command:04X} data {data}"));
         }
-        Some(Outcome::Refused(refusal)) => {
-            put(answer, format_args!("packet {}", refusal as u8));
-        }
+        Some(Outcome::Refused(broken)) => put(answer, format_args!("packet {broken}")),
     }
     answer.extend(b" reply ");
     write_bytes(reply, answer);

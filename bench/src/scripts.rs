@@ -4,6 +4,7 @@
 //! with the model, so that it knows the password, the nodes and the sessions.
 
 pub mod bad;
+pub mod broken;
 pub mod damage;
 pub mod host;
 pub mod load;
@@ -57,10 +58,14 @@ pub enum Kind {
     Rooms,
     /// All of these.
     Mixed,
+    /// One packet that breaks, cut at every place.
+    Cuts,
+    /// Packets that break, cut around the place.
+    Broken,
 }
 
 impl Kind {
-    pub const ALL: [Kind; 10] = [
+    pub const ALL: [Kind; 12] = [
         Kind::Directory,
         Kind::Unknown,
         Kind::Requests,
@@ -71,6 +76,8 @@ impl Kind {
         Kind::Names,
         Kind::Rooms,
         Kind::Mixed,
+        Kind::Cuts,
+        Kind::Broken,
     ];
 
     pub fn name(self) -> &'static str {
@@ -85,6 +92,8 @@ impl Kind {
             Kind::Names => "names",
             Kind::Rooms => "rooms",
             Kind::Mixed => "mixed",
+            Kind::Cuts => "cuts",
+            Kind::Broken => "broken",
         }
     }
 
@@ -97,6 +106,7 @@ impl Kind {
         match self {
             Kind::Directory => ENTRIES.len().div_ceil(ENTRIES_EACH),
             Kind::Unknown => UNKNOWN_SCRIPTS,
+            Kind::Cuts => broken::CUT_SCRIPTS,
             _ => 0,
         }
     }
@@ -129,6 +139,7 @@ impl Name {
         match self.kind {
             Kind::Directory => directory(&mut writer, self.index),
             Kind::Unknown => unknown(&mut writer),
+            Kind::Cuts => broken::cuts(&mut writer, self.index),
             kind => drawn(&mut writer, kind),
         }
         host::end(&mut writer);
@@ -223,7 +234,8 @@ fn step(writer: &mut Writer, kind: Kind) {
         Kind::Bad => bad::some(writer),
         Kind::Names => names(writer),
         Kind::Rooms => rooms::some(writer),
-        Kind::Mixed | Kind::Directory | Kind::Unknown => {
+        Kind::Broken => broken::some(writer),
+        Kind::Mixed | Kind::Directory | Kind::Unknown | Kind::Cuts => {
             let kinds = [
                 Kind::Requests,
                 Kind::Sessions,
@@ -231,6 +243,7 @@ fn step(writer: &mut Writer, kind: Kind) {
                 Kind::Bad,
                 Kind::Names,
                 Kind::Rooms,
+                Kind::Broken,
             ];
             let other = writer.random.pick(&kinds);
             step(writer, other);

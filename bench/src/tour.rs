@@ -1,6 +1,8 @@
 //! A tour through every call, refusal, status, error byte and bad word: the
 //! script of `examples/all.script`, in parts with names.
 
+mod places;
+
 use crate::generate::rows::ROWS;
 use crate::hub::commands::{
     GET_NODE, MODE_SEND, PASSWORD_CHANGE, PASSWORD_ENTER, REMOVE_NODES, SET_NAME, SET_ORDER,
@@ -64,6 +66,10 @@ pub fn parts() -> Vec<Part> {
     tour.rooms_of_sessions();
     tour.rooms_of_get();
     tour.refused_for_room();
+    tour.places();
+    tour.places_of_255();
+    tour.places_behind_esc();
+    tour.cut_everywhere();
     tour.parts
 }
 
@@ -808,14 +814,20 @@ mod tests {
     use super::*;
     use crate::reach::Reach;
 
-    /// What needs 200 nodes, a line of 40000 bytes or a last line without LF
-    /// is left out.
+    /// What needs 200 nodes, a line of 40000 bytes, a last line without LF or
+    /// several hundred feeds of one packet is left out.
     #[test]
     fn everything_is_reached() {
         let mut reach = Reach::default();
         reach.answer(script().as_bytes());
         let mut missing = reach.missing_rows();
-        let left_out = ["40000 bytes", "too long", "without LF", "all nodes"];
+        let left_out = [
+            "40000 bytes",
+            "too long",
+            "without LF",
+            "all nodes",
+            "packet 2: cut at every place",
+        ];
         missing.retain(|row| !left_out.iter().any(|words| row.contains(words)));
         assert!(missing.is_empty(), "{missing:?}");
     }
@@ -834,7 +846,7 @@ mod tests {
 
     #[test]
     fn the_script_is_short() {
-        assert!(script().lines().count() < 650);
+        assert!(script().lines().count() < 800);
         assert!(script().lines().all(|line| line.len() < 1200));
     }
 }

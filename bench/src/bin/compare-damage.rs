@@ -12,6 +12,7 @@ use std::process::ExitCode;
 
 use bench::arguments::{self, no_more, wrong, Arguments, Usage};
 use bench::difference;
+use bench::replay::call::hex;
 use bench::scripts::damage::{self, Pair};
 use bench::stand::{Feed, Stand};
 use bench::workers::{self, WORKERS};
@@ -29,8 +30,6 @@ scripts (3000 if not given), or on the pair INDEX alone.
 const SCRIPTS: u64 = 3_000;
 /// More bytes than the answers to a script have.
 const OUTPUT_MOST: usize = 10_000_000;
-/// The one error reply: frame 0000 with byte 2.
-const ERROR_REPLY: &str = " reply C0000400000206C0";
 
 type Counts = BTreeMap<String, u64>;
 
@@ -42,7 +41,8 @@ struct Difference {
 }
 
 enum Fault {
-    /// The frame's feeds are not answered by one error reply alone.
+    /// The frame's feeds are not answered by one error reply alone, at places
+    /// of the frame.
     Frame(Vec<String>),
     /// Another answer or the end state differs.
     Others {
@@ -150,7 +150,7 @@ fn judge(pair: &Pair, with: &[u8], without: &[u8]) -> Result<String, Fault> {
         lines.partition(|(number, _)| pair.frame_feeds.contains(number));
     let text = |(_, line): &(usize, &[u8])| String::from_utf8_lossy(line).trim_end().to_string();
     let frame: Vec<String> = frame.iter().map(text).collect();
-    let packet = refused_once(&frame).ok_or(Fault::Frame(frame))?;
+    let packet = refused_once(pair, &frame).ok_or(Fault::Frame(frame))?;
     let others = others
         .into_iter()
         .map(|(_, line)| line)
@@ -166,19 +166,15 @@ fn judge(pair: &Pair, with: &[u8], without: &[u8]) -> Result<String, Fault> {
 }
 
 /// The frame's feeds, refused ones aside, tell nothing but in the last one
-/// a packet refusal with the error reply.
-fn refused_once(answers: &[String]) -> Option<String> {
+/// a packet refusal at places of the frame, with the error reply.
+fn refused_once(pair: &Pair, answers: &[String]) -> Option<String> {
     let (last, before) = answers.split_last()?;
     let silent = |answer: &String| {
         let refused = ["refused 7", "refused 9"].contains(&answer.as_str());
         refused || answer.ends_with(" none reply -")
     };
-    let told = last.strip_suffix(ERROR_REPLY)?;
-    let (_, packet) = told.split_once(" packet ")?;
-    before
-        .iter()
-        .all(silent)
-        .then(|| format!("packet {packet}"))
+    let packet = pair.refused(last)?;
+    before.iter().all(silent).then_some(packet)
 }
 
 fn show(difference: &Difference, program: &str, seed: u64) -> io::Result<()> {
@@ -197,7 +193,8 @@ fn show(difference: &Difference, program: &str, seed: u64) -> io::Result<()> {
     println!("  frame     its feeds are lines {}", feeds.join(", "));
     match fault {
         Fault::Frame(answers) => {
-            println!("  these must be silent but for one error reply; they are answered");
+            println!("  these must be silent but for one error reply at places of the");
+            println!("  damaged frame {}; they are answered", hex(&pair.piece));
             for answer in answers {
                 println!("    {answer}");
             }

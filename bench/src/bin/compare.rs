@@ -195,7 +195,7 @@ fn run(stand: &mut Stand, name: Name, seed: u64, tally: &mut Tally) -> Option<Di
             fault,
         });
     }
-    tally.count(name.kind, capture.len(), &listing);
+    tally.count(name.kind, &capture, &listing);
     None
 }
 

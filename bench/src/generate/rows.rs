@@ -43,27 +43,27 @@ pub const ROWS: [Row; 11] = [
     Row {
         name: "P7",
         wire: &[0xC0, 0xDB, 0xC0],
-        told: "refused 1\nleft 0\n",
+        told: "refused 1 at 1 0\nleft 0\n",
     },
     Row {
         name: "P8",
         wire: &[0xC0, 0x00, 0x03, 0x00, 0x03, 0xC0],
-        told: "refused 3\nleft 0\n",
+        told: "refused 3 at 4 4\nleft 0\n",
     },
     Row {
         name: "P9",
         wire: &[0xC0, 0x01, 0x03, 0x00, 0x01, 0x03, 0xC0],
-        told: "refused 4\nleft 0\n",
+        told: "refused 4 at 0 0\nleft 0\n",
     },
     Row {
         name: "P10",
         wire: &[0xC0, 0x00, 0x04, 0x00, 0x01, 0x05, 0xC0],
-        told: "refused 5\nleft 0\n",
+        told: "refused 5 at 5 5\nleft 0\n",
     },
     Row {
         name: "P11",
         wire: &[0xC0, 0x00, 0x03, 0x00, 0x01, 0x03, 0xC0],
-        told: "refused 6\nleft 0\n",
+        told: "refused 6 at 4 4\nleft 0\n",
     },
 ];
 

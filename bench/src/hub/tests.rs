@@ -1,7 +1,7 @@
 use super::nodes::{NAME, ORDER, PLACEMENT, RECORD, TABLE, VARIATION};
 use super::*;
 use crate::generate::{self, rows::ROWS};
-use crate::outcome::{Refusal, END};
+use crate::outcome::{Broken, DecodedPlace, Refusal, WirePlace, END};
 use crate::paper;
 use crate::random::Random;
 use crate::sender::wire;
@@ -505,6 +505,54 @@ fn fed(
     told
 }
 
+/// Pieces with escapes before, at and behind the place where they break.
+const PIECES: [(&[u8], Refusal, usize, usize); 8] = [
+    (
+        &[5, 0xDB, 0xDC, 0xDB, 7, 0xDB, 0xDD],
+        Refusal::WrongEscape,
+        4,
+        2,
+    ),
+    (&[5, 0xDB], Refusal::WrongEscape, 2, 1),
+    (&[0xDB, 0xDC, 3, 0xDB, 0xDD], Refusal::Short, 5, 3),
+    (&[0xDB, 0xDD, 3, 0, 1, 0xDB, 0xDC], Refusal::Protocol, 0, 0),
+    (&[0, 4, 0xDB, 0xDC, 1, 5], Refusal::Shorter, 6, 5),
+    (&[0, 3, 0xDB, 0xDC, 1, 0xDB, 0xDD], Refusal::Check, 5, 4),
+    (
+        &[0, 3, 0xDB, 0xDC, 1, 2, 0xDB, 0xDD, 9],
+        Refusal::Longer,
+        6,
+        5,
+    ),
+    (&[0, 0, 0xDB, 0xDC, 1, 2], Refusal::Longer, 2, 2),
+];
+
+/// Feed tells the places from the last END on, however the packet is cut and
+/// whatever came before. Feeds that are refused meanwhile do not move them. The
+/// reply is the same for every refusal.
+#[test]
+fn feed_tells_where_a_packet_broke() {
+    for (piece, refusal, wire, decoded) in PIECES {
+        let broken = Outcome::Refused(Broken {
+            refusal,
+            wire: WirePlace(wire),
+            decoded: DecodedPlace(decoded),
+        });
+        for before in [&[][..], &[END], &[1, 2, END], &[0xDB, 7, END]] {
+            for cut in 0..=piece.len() {
+                let (first, rest) = piece.split_at(cut);
+                let rest = [rest, &[END, 3]].concat();
+                let mut whole = Whole::ready();
+                whole.feed(0, before);
+                whole.feed(0, first);
+                assert_eq!(whole.feed_lent(0, &rest, 7), Err(9));
+                let told = (rest.len() - 1, Some(broken), error(2));
+                assert_eq!(whole.feed(0, &rest), told, "{piece:02X?} {cut}");
+            }
+        }
+    }
+}
+
 #[test]
 fn reading_states() {
     let mut whole = Whole::ready();
@@ -513,7 +561,12 @@ fn reading_states() {
     assert_eq!(whole.records[0].held().len(), 255);
     whole.feed(0, &[0xDC]);
     assert!(whole.records[0].held().is_empty());
-    let refused = Some(Outcome::Refused(Refusal::TooLong));
-    assert_eq!(whole.feed(0, &[0xDB, 0, END, 7]), (3, refused, error(2)));
+    let refused = Outcome::Refused(Broken {
+        refusal: Refusal::TooLong,
+        wire: WirePlace(255),
+        decoded: DecodedPlace(255),
+    });
+    let told = (3, Some(refused), error(2));
+    assert_eq!(whole.feed(0, &[0xDB, 0, END, 7]), told);
     assert!(whole.records[0].is_between_packets());
 }

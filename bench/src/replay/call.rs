@@ -442,7 +442,8 @@ impl fmt::Display for Call {
     }
 }
 
-fn hex(bytes: &[u8]) -> String {
+/// Bytes as a script has them.
+pub fn hex(bytes: &[u8]) -> String {
     let mut text = Vec::new();
     write_bytes(bytes, &mut text);
     String::from_utf8(text).expect("digits are text")

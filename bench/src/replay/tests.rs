@@ -36,9 +36,26 @@ fn an_answer_for_each_call() {
     let expected = format!(
         "done\nrefused 12\nbad line 3 word 4\nused 2 none reply -\nlogin 0000\n{node}\n\
         line 0 plain -\nline 1 escaped -\nline 2 plain -\nline 3 plain -\nend\nrefused 8\n\
-        used 3 packet 3 reply C0000400000206C0\nrefused 13\ndone\nrefused 7\nrefused 14\n"
+        used 3 packet 3 at 3 2 reply C0000400000206C0\nrefused 13\ndone\nrefused 7\nrefused 14\n"
     );
     assert_eq!(text(script), expected);
+}
+
+/// The wire place and the decoded place stand behind a packet's refusal, and
+/// behind a line that skips.
+#[test]
+fn places_are_told() {
+    let script = b"feed 0 8 C00003000103C0\nfeed 0 8 000300DBDC02DBDDC0\nfeed 1 0 05DBDCDB\n\
+        feed 1 0 DBDBDC\nfeed 2 8 DBC0\nshow\nfeed 1 8 C0\nfeed 2 0 C0\nfeed 9 8 DBC0";
+    let expected = "used 7 packet 6 at 4 4 reply C0000400000206C0\n\
+        used 9 packet 15 at 6 5 reply C0000400000206C0\nused 4 none reply -\n\
+        used 3 none reply -\nused 2 packet 1 at 1 0 reply C0000400000206C0\n\
+        login 0000\nline 0 plain -\nline 1 skip1 - at 4 2\nline 2 plain -\n\
+        line 3 plain -\nend\nused 1 packet 1 at 4 2 reply C0000400000206C0\n\
+        used 1 none reply -\nrefused 8\n";
+    assert_eq!(text(script), expected);
+    let long = format!("feed 3 0 {}\nshow\n", "DBDD".repeat(256));
+    assert!(text(long.as_bytes()).ends_with("line 3 skip2 - at 510 255\nend\n"));
 }
 
 #[test]
@@ -95,6 +112,28 @@ fn the_worked_example_is_as_the_page_has_it() {
         panic!("the page has a script and its answers");
     };
     assert_eq!(text(script.as_bytes()), answers);
+}
+
+/// Behind the worked example the page has tables of calls and their answers,
+/// made one after the other on the hub that the example leaves.
+#[test]
+fn the_tables_of_calls_are_as_the_page_has_them() {
+    let page = include_str!("../../../docs/REPLAY.md");
+    let mut script = page.split("```\n").nth(1).unwrap().to_string();
+    let mut expected = text(script.as_bytes());
+    let mut calls = 0;
+    for row in page.lines() {
+        let cells: Vec<_> = row.split('`').collect();
+        if let ["| ", call, " | ", answer, ..] = cells[..] {
+            if Call::parse(call.as_bytes()).is_ok() {
+                script += &format!("{call}\n");
+                expected += &format!("{answer}\n");
+                calls += 1;
+            }
+        }
+    }
+    assert_eq!(calls, 9);
+    assert_eq!(text(script.as_bytes()), expected);
 }
 
 /// The table of a node with this name.

@@ -8,7 +8,7 @@ use crate::generate::damage::{damaged, other_value, places, Damage};
 use crate::generate::frames;
 use crate::hub::nodes::TABLE;
 use crate::hub::{Fed, LINES};
-use crate::outcome::{END, ESC};
+use crate::outcome::{Refusal, END, ESC};
 use crate::random::Random;
 use crate::replay::call::{is_remark, Call};
 use crate::replay::Told;
@@ -18,6 +18,9 @@ use crate::sender::{self, escape, Ends};
 const FRAMES_MOST: usize = 6;
 /// Steps before the list of feeds.
 const STEPS_MOST: usize = 12;
+
+/// The one error reply: frame 0000 with byte 2.
+const ERROR_REPLY: &str = " reply C0000400000206C0";
 
 /// Where a body is damaged.
 const PLACES: [&str; 8] = [
@@ -38,8 +41,40 @@ pub struct Pair {
     pub without: Vec<u8>,
     /// The lines of the damaged frame's feeds in the first script.
     pub frame_feeds: Vec<usize>,
+    /// The damaged frame on the wire, without its ENDs.
+    pub piece: Vec<u8>,
     /// What the pair shows, for a tally.
     pub rows: Vec<String>,
+}
+
+impl Pair {
+    /// The row of an answer that refuses the damaged frame: a packet refusal at
+    /// places of its piece, with the error reply.
+    pub fn refused(&self, answer: &str) -> Option<String> {
+        let told = answer.strip_suffix(ERROR_REPLY)?;
+        let (_, packet) = told.split_once(" packet ")?;
+        let (number, places) = packet.split_once(" at ")?;
+        let (wire, decoded) = places.split_once(' ')?;
+        let before = self.piece.get(..wire.parse().ok()?)?;
+        let row = format!("packet {number}");
+        let right = packet_rows().any(|packet| packet == row)
+            && decoded.parse() == Ok(decoded_count(before))
+            && before.ends_with(&[ESC]) == (number == "1");
+        right.then_some(row)
+    }
+}
+
+/// How many decoded bytes stand before a place of a piece. ESCs are no bytes of
+/// their own; only a wrong escape is told right behind one.
+fn decoded_count(before: &[u8]) -> usize {
+    before.iter().filter(|&&byte| byte != ESC).count()
+}
+
+/// A row for each packet refusal.
+fn packet_rows() -> impl Iterator<Item = String> {
+    Refusal::ALL
+        .map(|refusal| format!("packet {}", refusal as u8))
+        .into_iter()
 }
 
 /// All rows that pairs should show.
@@ -51,7 +86,7 @@ pub fn rows() -> Vec<String> {
             rows.push(format!("{damage:?} at {place}"));
         }
     }
-    rows.extend((1..=6).map(|number| format!("packet {number}")));
+    rows.extend(packet_rows());
     let others = [
         "the frame is the first",
         "the frame is the last",
@@ -83,13 +118,18 @@ pub fn pair(seed: u64, index: usize) -> Pair {
     let mut writer = Writer::new(Random::new(&[seed, index as u64]));
     let line = writer.random.below(LINES);
     before(&mut writer, line as u8);
-    let (wire, hurt, mut rows) = wire(&mut writer, line as u8);
+    let (bodies, hurt, mut rows) = bodies(&mut writer, line as u8);
+    let ends = writer
+        .random
+        .pick(&[Ends::Shared, Ends::Doubled, Ends::Mixed]);
+    let wire = sender::join(&bodies, ends, &mut writer.random);
     let login = writer.replay.hub.logins[line];
     let not = if login { "" } else { "not " };
     rows.push(format!("the line is {not}logged in"));
     let mut feeds = Feeds {
         line,
         hurt,
+        piece: bodies[hurt].clone(),
         outcomes: 0,
         frame_feeds: Vec::new(),
         refused: None,
@@ -117,9 +157,9 @@ fn before(writer: &mut Writer, line: u8) {
     writer.script = lines.flat_map(|line| [line, b"\n"].concat()).collect();
 }
 
-/// Well-formed frames on the line, one of them damaged: the bytes, the number
-/// of the damaged one, and what is shown.
-fn wire(writer: &mut Writer, line: u8) -> (Vec<u8>, usize, Vec<String>) {
+/// Well-formed frames for the line, escaped, one of them damaged: the frames,
+/// the number of the damaged one, and what is shown.
+fn bodies(writer: &mut Writer, line: u8) -> (Vec<Vec<u8>>, usize, Vec<String>) {
     let count = writer.random.between(1, FRAMES_MOST);
     let mut bodies: Vec<_> = (0..count).map(|_| body(writer, line)).collect();
     let hurt = writer.random.below(count);
@@ -131,7 +171,6 @@ fn wire(writer: &mut Writer, line: u8) -> (Vec<u8>, usize, Vec<String>) {
     }
     let (damaged, row) = hurt_body(&bodies[hurt], random);
     bodies[hurt] = damaged;
-    let ends = random.pick(&[Ends::Shared, Ends::Doubled, Ends::Mixed]);
     let mut rows = vec![row];
     if hurt == 0 {
         rows.push("the frame is the first".to_string());
@@ -142,7 +181,7 @@ fn wire(writer: &mut Writer, line: u8) -> (Vec<u8>, usize, Vec<String>) {
     if count == 1 {
         rows.push("the frame is alone".to_string());
     }
-    (sender::join(&bodies, ends, random), hurt, rows)
+    (bodies, hurt, rows)
 }
 
 /// An escaped frame: mostly a request, else any.
@@ -181,7 +220,6 @@ fn hurt_body(body: &[u8], random: &mut Random) -> (Vec<u8>, String) {
 
 /// The part of a frame to which a place of its body belongs.
 fn place_name(body: &[u8], place: usize) -> &'static str {
-    let decoded = |end: usize| body[..end].iter().filter(|&&byte| byte != ESC).count();
     if place == body.len() {
         return PLACES[7];
     }
@@ -191,11 +229,11 @@ fn place_name(body: &[u8], place: usize) -> &'static str {
     if place > 0 && body[place - 1] == ESC {
         return PLACES[6];
     }
-    match decoded(place) {
+    match decoded_count(&body[..place]) {
         0 => PLACES[0],
         1 => PLACES[1],
         2 | 3 => PLACES[2],
-        number if number + 1 == decoded(body.len()) => PLACES[4],
+        number if number + 1 == decoded_count(body) => PLACES[4],
         _ => PLACES[3],
     }
 }
@@ -204,6 +242,8 @@ fn place_name(body: &[u8], place: usize) -> &'static str {
 struct Feeds {
     line: usize,
     hurt: usize,
+    /// The damaged frame on the wire, without its ENDs.
+    piece: Vec<u8>,
     /// Outcomes on the line so far.
     outcomes: usize,
     frame_feeds: Vec<usize>,
@@ -338,6 +378,7 @@ impl Feeds {
             with: writer.script,
             without,
             frame_feeds: self.frame_feeds,
+            piece: self.piece,
             rows: self.rows,
         }
     }
@@ -395,10 +436,7 @@ mod tests {
             let pair = pair(9, index);
             let mut with = answers(&pair.with);
             let last = *pair.frame_feeds.last().unwrap();
-            let (used, packet) = with[last].split_once(" packet ").unwrap();
-            assert!(used.starts_with("used "));
-            let row = format!("packet {}", &packet[..1]);
-            assert_eq!(&packet[1..], " reply C0000400000206C0");
+            let row = pair.refused(&with[last]).unwrap();
             missing.retain(|missing| *missing != row && !pair.rows.contains(missing));
             for &line in pair.frame_feeds.iter().rev() {
                 let answer = with.remove(line);
@@ -408,5 +446,43 @@ mod tests {
             assert!(with == answers(&pair.without), "{index}");
         }
         assert!(missing.is_empty(), "{missing:?}");
+    }
+
+    /// Answers that a damaged frame may not have: places outside its piece, of
+    /// two bytes or missing, another number, another reply.
+    #[test]
+    fn other_answers_are_found() {
+        let pair = Pair {
+            with: Vec::new(),
+            without: Vec::new(),
+            frame_feeds: Vec::new(),
+            piece: vec![0, 3, ESC, 0xDC, 1, 9],
+            rows: Vec::new(),
+        };
+        let refused = |told: &str| pair.refused(&format!("used 7 {told}{ERROR_REPLY}"));
+        for (told, row) in [
+            ("packet 6 at 5 4", "packet 6"),
+            ("packet 5 at 6 5", "packet 5"),
+            ("packet 15 at 2 2", "packet 15"),
+            ("packet 4 at 0 0", "packet 4"),
+            ("packet 1 at 3 2", "packet 1"),
+        ] {
+            assert_eq!(refused(told).as_deref(), Some(row), "{told}");
+        }
+        for told in [
+            "packet 6 at 4 4",
+            "packet 6 at 5 5",
+            "packet 5 at 7 6",
+            "packet 15 at 3 2",
+            "packet 1 at 2 2",
+            "packet 7 at 6 5",
+            "packet 6",
+            "packet 6 at 5",
+            "frame 0001 data 0",
+        ] {
+            assert_eq!(refused(told), None, "{told}");
+        }
+        let other = "used 7 packet 6 at 5 4 reply C0000400000107C0";
+        assert_eq!(pair.refused(other), None);
     }
 }

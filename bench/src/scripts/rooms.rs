@@ -95,7 +95,7 @@ fn hurt(body: &[u8], random: &mut Random) -> Vec<u8> {
 }
 
 /// A request on another line.
-fn other_line(writer: &mut Writer, line: u8) {
+pub fn other_line(writer: &mut Writer, line: u8) {
     let other = (usize::from(line) + writer.random.between(1, LINES - 1)) % LINES;
     let (command, data) = requests::request(writer, other as u8, Taste::Any);
     writer.send_one(other as u8, sender::wire(command, &data));
