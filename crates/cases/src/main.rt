@@ -1,5 +1,8 @@
-// Boundary cases of reading, run and held to the file stdout: the line reader on wire bytes, whole and cut in two at every place,
-// and on records that claim too much or skip at places that no bytes could leave; such records, lent to the hub.
+// Boundary cases of reading and of passwords, run and held to the file stdout: the line reader on wire bytes, whole and cut in two at every place,
+// and on records that claim too much or skip at places that no bytes could leave; such records, lent to the hub;
+// passwords with old bytes behind them (old_bytes.rt).
+mod old_bytes;
+
 use libc::STDOUT_FILENO;
 use line::DecodedPlace;
 use line::Fault;
@@ -435,4 +438,5 @@ fn main() {
     show_claimed_bounds(255);
     show_claimed_bounds(256);
     show_hub();
+    crate::old_bytes::show();
 }

@@ -24,6 +24,7 @@ use Rattle.feeds.specs.Sent.{Sent, enclosed, sent}
 use Rattle.feeds.specs.Service.{worldOf}
 use Rattle.feeds.specs.AnyHub.{DamageIsolated, damage-isolated}
 use Rattle.memory.specs.Octets.{same}
+use Rattle.passwords.specs.Passwords.{passwordOf}
 use Rattle.replies.specs.Messages.{bytesOf, aboutNode}
 use Rattle.rules.specs.Hub as rules
 use Rattle.rules.specs.Hub.{firstHub, hub, serve}
@@ -72,7 +73,7 @@ unfoldable its : List Bool
 its = false ∷ true ∷ false ∷ true ∷ false ∷ true ∷ true ∷ false ∷ false ∷ []
 
 example-results : results hub start entries ≡ given
-unfolding overfull start worldOf entry entries given serve rules.respond bytesOf aboutNode rules.request rules.enter same table.inUse lookup.verdict lookup.verdictOf lookup.find directory results feed returned call decided settled serveIf stateFor scan onward step verdict inner line.step line.decoded line.close line.wrongEscape line.tooLong judge wire escape framed body frames.tooLong frames.tooShort frames.wrongProtocol frames.belowLength frames.beyondLength frames.wireLength frames.onWire frames.byteAt frames.behind frames.wrongCheck xorAll _⊕_
+unfolding overfull start worldOf entry entries given serve rules.respond bytesOf aboutNode rules.request rules.enter passwordOf same table.inUse lookup.verdict lookup.verdictOf lookup.find directory results feed returned call decided settled serveIf stateFor scan onward step verdict inner line.step line.decoded line.close line.wrongEscape line.tooLong judge wire escape framed body frames.tooLong frames.tooShort frames.wrongProtocol frames.belowLength frames.beyondLength frames.wireLength frames.onWire frames.byteAt frames.behind frames.wrongCheck xorAll _⊕_
 example-results = refl
 
 example-marks : marks 0 1 entries (answers given) ≡ its

@@ -34,6 +34,7 @@ use Rattle.feeds.specs.OrderLaws.{linesOf, order-same}
 use Rattle.feeds.specs.ServiceLaws as service
 use Rattle.feeds.specs.ServiceLaws.{run-results, run-answers, run-end}
 use Rattle.feeds.specs.Demand3.{Line, recordAt, own-taken, has-line}
+use Rattle.passwords.specs.Passwords.{stored}
 use Rattle.rules.specs.declared.Hub.{Hub}
 use Rattle.rules.specs.Hub.{passwordSize, freshHub, firstHub, startRefusal, startBy, Started, Enrolled, Closed, Finish, refusedFinish, finishedOn, Finished, finishBy, notice, shortRoom, refuseIf, lineCount, feedRefusal, Reply, isLoggedIn, hub}
 use Rattle.rules.specs.Answers.{finishOf, FinishedSession, answerOf, fedOf}
@@ -41,12 +42,13 @@ use Rattle.rules.specs.PromiseLaws.{feeds-promise}
 use Rattle.demands.specs.Calls.{World}
 use Rattle.demands.specs.FeedLists.{FeedList, feedsOf}
 use Rattle.demands.specs.Invariants.{Unchanged, OneAtMost}
-use Rattle.demands.specs.Steps.{Memory, Step, start, finish, feed, Return, finished, fed, lineRecord, Made, starts, enrols, closes, finishes, feeds, Steps, refusal, finishTells, feedTells, refusalTold, isRefused, roomLent, roomBack, recordLent, recordBack, Unprivileged, loggedByAll, callOf}
-use Rattle.demands.specs.StepsLaws.{made-refusal, steps-without, steps-after, steps-logged, steps-unprivileged, steps-any}
+use Rattle.demands.specs.Steps.{Memory, Step, start, finish, feed, Return, finished, fed, lineRecord, Made, starts, enrols, closes, finishes, feeds, Steps, refusal, finishTells, feedTells, refusalTold, isRefused, roomLent, roomBack, recordLent, recordBack, Unprivileged, loggedByAll, passwordByAll, callOf}
+use Rattle.demands.specs.StepsLaws.{made-refusal, steps-without, steps-after, steps-logged, steps-password, steps-unprivileged, steps-any}
 use Rattle.rules.specs.Frames.{Frames, no-frames, serve-frames, notice-frames}
 use Rattle.rules.specs.Refusals.{start-refused, enrol-refused, close-refused, finish-refused, written-served, refused-room, refused-exactly}
 use Rattle.demands.specs.Guard as guard
 use Rattle.demands.specs.Logins.{logged-exactly}
+use Rattle.demands.specs.Passwords.{password-exactly}
 use Rattle.sessions.specs.Search.{any as anySlot}
 use Rattle.sessions.specs.Sessions as sessions
 use Rattle.demands.specs.OneHolder.{free, one-holder}
@@ -161,6 +163,8 @@ pub record Demand2 : Type 0 where
   -- a hub has four logins
   pub logged : {m e : Memory} {ss : List Step} {os : List Return} (x : Steps m ss os e) (l : ℕ) → length (m .hub .logins) ≡ lineCount → l < lineCount
       → isLoggedIn (e .hub) l ≡ loggedByAll l (isLoggedIn (m .hub) l) x
+  -- the password is that of the last start or change that was accepted, with zeros from its first zero on, or that at the beginning
+  pub password : {m e : Memory} {ss : List Step} {os : List Return} (x : Steps m ss os e) → e .hub .password ≡ passwordByAll (m .hub .password) x
   -- "and each served command has the stated effect and reply": each feed's outcome is served, and nothing where there is none,
   pub served : {m v : Memory} {g : Lent} {o : Got hub} → Made m (feed g) (fed o) v → (u : ℕ) (y : Option Outcome) (k : ℕ) → o .answer ≡ told u y k
       → Answered m g o v u y k (serveIf hub (m .hub) (m .table) (g .line) y)
@@ -371,6 +375,11 @@ unfolding worldOf
 steps-login {m} {ss = ss} x l four h =
     ap (λ (w : World). isLoggedIn (w .hub) l) (steps-after x) ∙ logged-exactly l (worldOf m) (map callOf ss) four h ∙ sym (steps-logged l (isLoggedIn (m .hub) l) x)
 
+steps-password-exactly : {m e : Memory} {ss : List Step} {os : List Return} (x : Steps m ss os e) → e .hub .password ≡ passwordByAll (m .hub .password) x
+unfolding worldOf
+steps-password-exactly {m} {ss = ss} x =
+    ap (λ (w : World). w .hub .password) (steps-after x) ∙ password-exactly (worldOf m) (map callOf ss) ∙ sym (steps-password (m .hub .password) x)
+
 -- a list of feeds serves what the definition's serves
 run-served : (F : Feeds hub) → servedIn F ≡ servedBy hub (worldOf (F .start)) (entriesIn F)
 unfolding worldOf
@@ -431,7 +440,7 @@ run-cut-lines F G four begun used lines =
     }
 
 pub demand-2 : Demand2
-demand-2 = record { read = read-exactly (λ l F. run-told l (feedsOf F)) list-kept; written = record { by-feed = made-frames; by-finish = finish-frames; by-writer = writer-wrote; read-back = read-frames }; guarded = steps-guarded; logged = steps-login; served = made-served; told = λ l F. run-told l (feedsOf F); in-order = λ F. run-in-order (feedsOf F); frames = λ l F. run-frames l (feedsOf F); cut = λ l F G. run-cut l (feedsOf F) (feedsOf G); kept = list-kept; cut-lines = λ F G. run-cut-lines (feedsOf F) (feedsOf G) }
+demand-2 = record { read = read-exactly (λ l F. run-told l (feedsOf F)) list-kept; written = record { by-feed = made-frames; by-finish = finish-frames; by-writer = writer-wrote; read-back = read-frames }; guarded = steps-guarded; logged = steps-login; password = steps-password-exactly; served = made-served; told = λ l F. run-told l (feedsOf F); in-order = λ F. run-in-order (feedsOf F); frames = λ l F. run-frames l (feedsOf F); cut = λ l F G. run-cut l (feedsOf F) (feedsOf G); kept = list-kept; cut-lines = λ F G. run-cut-lines (feedsOf F) (feedsOf G) }
 
 steps-one : {m e : Memory} {ss : List Step} {os : List Return} → Steps m ss os e → (n : ℕ) → OneAtMost n (m .hub) → OneAtMost n (e .hub)
 unfolding worldOf
@@ -447,7 +456,7 @@ start-one (starts {m} {p} a {h} {t} x) e n =
     go (startRefusal (m .table) p) (ap (λ (z : Started). z .refusal) (sym x) ∙ e) (ap (λ (z : Started). z .hub) x)
   where
     go : (r : Option ℕ) → startBy r (m .hub) (m .table) p .refusal ≡ none → h ≡ startBy r (m .hub) (m .table) p .hub → OneAtMost n h
-    go none q z = rw z (fresh-one p n)
+    go none q z = rw z (fresh-one (stored p) n)
     go (some k) q z = absurd (Option·none-ne-some k (sym q))
 
 pub no-two-holders : OneHolder

@@ -14,9 +14,9 @@ use Rattle.feeds.specs.SystemLaws.{Fed, barred, done, fed}
 use Rattle.rules.specs.declared.Hub.{Hub}
 use Rattle.demands.specs.Invariants.{Unchanged}
 use Rattle.demands.specs.Calls.{World, Call, start, enrol, close, finish, feed, after, afterAll, Unprivileged}
-use Rattle.memory.specs.Octets.{same}
+use Rattle.passwords.specs.Passwords.{isSame}
 use Rattle.replies.specs.Messages.{passwordEntered}
-use Rattle.rules.specs.Hub.{Response, failure, frameError, notLoggedIn, Password, enter, reply, request, isLoggedIn, respond, serve, hub}
+use Rattle.rules.specs.Hub.{Response, passwordEnter, failure, frameError, notLoggedIn, Password, enter, reply, request, isLoggedIn, respond, serve, hub}
 use Rattle.rules.specs.Cases.{either, each-verdict}
 
 -- said of what an outcome leaves
@@ -30,7 +30,7 @@ failure-guarded h t e = record { table = refl; password = refl; sessions = refl 
 enter-guarded : (h : Hub) (t : List ℕ) (l : ℕ) (d : List ℕ) → Guarded h t (reply (enter h l d .hub) t (passwordEntered (enter h l d .status)))
 unfolding enter
 enter-guarded h t l d =
-    either (λ (p : Password). Guarded h t (reply (p .hub) t (passwordEntered (p .status)))) (same d (h .password)) _ _
+    either (λ (p : Password). Guarded h t (reply (p .hub) t (passwordEntered (p .status)))) (isSame d (h .password)) _ _
     (record { table = refl; password = refl; sessions = refl }) (record { table = refl; password = refl; sessions = refl })
 
 pub serve-guarded : (h : Hub) (t : List ℕ) (l : ℕ) (o : Outcome) → isLoggedIn h l ≡ false → Guarded h t (respond h t l o)
@@ -38,9 +38,9 @@ unfolding respond request
 serve-guarded h t l (refused n) e = failure-guarded h t frameError
 serve-guarded h t l (frame c d) e =
     each-verdict (Guarded h t) (directory.verdict c (length d)) _ _ (failure-guarded h t)
-    (rw e (go (eqb c 0x3000) refl))
+    (rw e (go (eqb c passwordEnter) refl))
   where
-    go : (b : Bool) → eqb c 0x3000 ≡ b → Guarded h t (cond b (request h t l c d) (failure h t notLoggedIn))
+    go : (b : Bool) → eqb c passwordEnter ≡ b → Guarded h t (cond b (request h t l c d) (failure h t notLoggedIn))
     go true x = rw x (enter-guarded h t l d)
     go false x = failure-guarded h t notLoggedIn
 

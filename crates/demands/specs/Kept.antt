@@ -25,6 +25,7 @@ use Rattle.sessions.specs.Sessions as sessions
 use Rattle.feeds.specs.System as system
 use Rattle.feeds.specs.System.{Called, call, settled, serveIf}
 use Rattle.feeds.specs.CallLaws.{read-resets, call-refused, call-read}
+use Rattle.passwords.specs.Passwords.{stored}
 use Rattle.rules.specs.declared.Hub.{Hub}
 use Rattle.rules.specs.Hub.{lineCount, passwordSize, wrongTable, wrongLine, shortRoom, refuseIf, freshHub, closedLine, withSlots, notice, written, feedRefusal, hub}
 use Rattle.rules.specs.declared.CallRefusal.{CallRefusal}
@@ -46,7 +47,7 @@ start-any h t p = go (not (eqb (length t) tableSize)) refl (not (eqb (length p) 
     go : (x : Bool) → not (eqb (length t) tableSize) ≡ x → (y : Bool) → not (eqb (length p) passwordSize) ≡ y → (a : CallAnswer) × (h′ : Hub) × (t′ : List ℕ) × Starts h t p a h′ t′
     go true e y f = (call-answer.Refused call-cause.WrongTable, h, t, rw e)
     go false e true f = (call-answer.Refused call-cause.WrongPassword, h, t, rw (e, f))
-    go false e false f = (call-answer.Done, freshHub p, emptied t, rw (e, f))
+    go false e false f = (call-answer.Done, freshHub (stored p), emptied t, rw (e, f))
 
 pub enrol-any : (t : List ℕ) (n type : ℕ) → (a : CallAnswer) × (t′ : List ℕ) × Enrols t n type a t′
 enrol-any t n type = go (not (eqb (length t) tableSize)) refl (not (isNode n)) refl (inUse t n) refl

@@ -6,6 +6,7 @@ pub mod FeedLists
 pub mod Kept
 pub mod StepsLaws
 pub mod Logins
+pub mod Passwords
 pub mod OneHolder
 pub mod ErrorReply
 pub mod Feeds

@@ -8,18 +8,19 @@ use mathlib.Core.Option.{Option, none, some}
 use native.Mathlib.Omega.{arith}
 use lib.ListN.{length, set, getD, length-set, getD-replicate}
 use lib.Seq.{getD-set-same, getD-set-other}
-use lib.Dec.{leb, ltb, eqb}
-use borrow.Author.Tests.{eqb-true, eqb-false, ne-eqb, ltb-false, leb-true, le-leb}
+use lib.Dec.{ltb, eqb}
+use borrow.Author.Tests.{eqb-true, eqb-false, ne-eqb, ltb-false}
 use Rattle.frame.specs.Frame.{Outcome, frame, refused}
 use Rattle.nodes.specs.Table as table
 use Rattle.sessions.specs.Sessions as sessions
 use Rattle.directory.specs.Directory.{directory}
 use Rattle.directory.specs.Lookup as lookup
+use Rattle.directory.specs.DirectoryLaws.{verdict-fixed}
 use Rattle.feeds.specs.System as feeds
 use Rattle.feeds.specs.Marks.{outcomeOf}
 use Rattle.feeds.specs.SystemLaws.{Fed, barred, done, fed}
 use Rattle.rules.specs.declared.Hub.{Hub}
-use Rattle.memory.specs.Octets.{same}
+use Rattle.passwords.specs.Passwords.{isSame}
 use Rattle.replies.specs.Messages.{passwordEntered}
 use Rattle.rules.specs.Hub as rules
 use Rattle.rules.specs.Cases.{either, each-verdict, each-request}
@@ -32,66 +33,43 @@ Kept h r = r .hub .logins ≡ h .logins
 
 change-kept : (h : Hub) (old new : List ℕ) → rules.change h old new .hub .logins ≡ h .logins
 unfolding rules.change
-change-kept h old new = either (λ (p : rules.Password). p .hub .logins ≡ h .logins) (same old (h .password)) _ _ refl refl
+change-kept h old new = either (λ (p : rules.Password). p .hub .logins ≡ h .logins) (isSame old (h .password)) _ _ refl refl
 
 -- every request but password enter leaves the logins
-request-kept : (h : Hub) (t : List ℕ) (l c : ℕ) (d : List ℕ) → eqb c 0x3000 ≡ false → Kept h (rules.request h t l c d)
+request-kept : (h : Hub) (t : List ℕ) (l c : ℕ) (d : List ℕ) → eqb c rules.passwordEnter ≡ false → Kept h (rules.request h t l c d)
 unfolding rules.removeNodes rules.virginState rules.modeSend
 request-kept h t l c d e =
-    each-request (Kept h) h t l c d (λ x. absurd (false≢true (sym e ∙ x))) (change-kept h _ _)
+    each-request (Kept h) h t l c d (λ x. absurd (false≢true (sym e ∙ x))) (λ x. change-kept h _ _)
     refl refl refl refl refl refl refl refl
 
--- password enter is known with 32 data bytes
-enter-verdict : (n : ℕ) → lookup.verdict 0x3000 n ≡ cond (leb 32 n && leb n 32) none (some lookup.frameError)
-unfolding lookup.verdict lookup.find lookup.verdictOf directory
-enter-verdict n = refl
-
--- a length that is not 32 is out of that range
-out-of-range : (n : ℕ) → eqb n 32 ≡ false → (leb 32 n && leb n 32) ≡ false
-out-of-range n e = go (leb 32 n) (leb n 32) refl refl
-  where
-    go : (a b : Bool) → leb 32 n ≡ a → leb n 32 ≡ b → (a && b) ≡ false
-    go true true x y = absurd (eqb-false n 32 e (omega (arith, leb-true 32 n x, leb-true n 32 y)))
-    go true false x y = refl
-    go false b x y = refl
-
 -- password enter logs its line in exactly by the right password
-enter-logins : (h : Hub) (t : List ℕ) (l : ℕ) (d : List ℕ) → rules.serve h t l (frame 0x3000 d) .hub .logins
-    ≡ cond (eqb (length d) rules.passwordSize && same d (h .password)) (set (h .logins) l 1) (h .logins)
-unfolding rules.serve rules.respond rules.request rules.enter
-enter-logins h t l d = rw (enter-verdict (length d)) (go (eqb (length d) 32) refl (rules.isLoggedIn h l) (same d (h .password)))
+enter-logins : (h : Hub) (t : List ℕ) (l : ℕ) (d : List ℕ) → rules.serve h t l (frame rules.passwordEnter d) .hub .logins
+    ≡ cond (eqb (length d) rules.passwordSize && isSame d (h .password)) (set (h .logins) l 1) (h .logins)
+unfolding rules.serve rules.respond rules.request rules.enter lookup.find directory
+enter-logins h t l d = rw (verdict-fixed rules.passwordEnter rules.passwordSize (length d) refl) (go (eqb (length d) rules.passwordSize) (rules.isLoggedIn h l) (isSame d (h .password)))
   where
     entered : Bool → rules.Password
-    entered s =
-        cond s (record { status = rules.correct; hub = record { password = h .password; logins = set (h .logins) l 1; slots = h .slots } })
-        (record { status = rules.incorrect; hub = h })
+    entered s = cond s (record { status = rules.correct; hub = rules.withLogin h l }) (record { status = rules.incorrect; hub = h })
 
-    fits : (i s : Bool)
-        → cond (i || true) (rules.reply (entered s .hub) t (passwordEntered (entered s .status))) (rules.failure h t rules.notLoggedIn) .hub .logins
-        ≡ cond s (set (h .logins) l 1) (h .logins)
-    fits true true = refl
-    fits true false = refl
-    fits false true = refl
-    fits false false = refl
-
-    go : (b : Bool) → eqb (length d) 32 ≡ b → (i s : Bool)
-        → rules.byVerdict (cond (leb 32 (length d) && leb (length d) 32) none (some lookup.frameError)) (rules.failure h t)
+    go : (b i s : Bool)
+        → rules.byVerdict (cond b none (some lookup.frameError)) (rules.failure h t)
         (cond (i || true) (rules.reply (entered s .hub) t (passwordEntered (entered s .status))) (rules.failure h t rules.notLoggedIn)) .hub .logins
         ≡ cond (b && s) (set (h .logins) l 1) (h .logins)
-    go true e i s =
-        let n : length d ≡ 32 = eqb-true (length d) 32 e in
-        rw (le-leb 32 (length d) (omega arith), le-leb (length d) 32 (omega arith)) (fits i s)
-    go false e i s = rw (out-of-range (length d) e)
+    go true true true = refl
+    go true true false = refl
+    go true false true = refl
+    go true false false = refl
+    go false i s = refl
 
 pub serve-logins : (h : Hub) (t : List ℕ) (l : ℕ) (o : Outcome)
     → rules.serve h t l o .hub .logins ≡ cond (isPassword h (some o)) (set (h .logins) l 1) (h .logins)
 unfolding isPassword rules.serve rules.respond
 serve-logins h t l (refused n) = refl
-serve-logins h t l (frame c d) = go (eqb c 0x3000) refl
+serve-logins h t l (frame c d) = go (eqb c rules.passwordEnter) refl
   where
-    go : (b : Bool) → eqb c 0x3000 ≡ b
-        → rules.serve h t l (frame c d) .hub .logins ≡ cond (b && (eqb (length d) rules.passwordSize && same d (h .password))) (set (h .logins) l 1) (h .logins)
-    go true e = rw (eqb-true c 0x3000 e) (enter-logins h t l d)
+    go : (b : Bool) → eqb c rules.passwordEnter ≡ b
+        → rules.serve h t l (frame c d) .hub .logins ≡ cond (b && (eqb (length d) rules.passwordSize && isSame d (h .password))) (set (h .logins) l 1) (h .logins)
+    go true e = rw (eqb-true c rules.passwordEnter e) (enter-logins h t l d)
     go false e = each-verdict (Kept h) (lookup.verdict c (length d)) _ _ (λ x. refl) (either (Kept h) (rules.mayAsk (h .logins) l c) _ _ (request-kept h t l c d e) refl)
 
 -- ---- one feed

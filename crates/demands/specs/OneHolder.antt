@@ -14,7 +14,7 @@ use Rattle.directory.specs.Lookup as directory
 use Rattle.feeds.specs.System as feeds
 use Rattle.feeds.specs.SystemLaws.{Fed, barred, done, fed}
 use Rattle.rules.specs.declared.Hub.{Hub}
-use Rattle.memory.specs.Octets.{same}
+use Rattle.passwords.specs.Passwords.{isSame}
 use Rattle.rules.specs.Hub.{Response, Password, enter, change, removeNodes, virginState, modeSend, request, mayAsk, respond, serve, startRefusal, startBy, closeRefusal, closeBy, finishBy, notice, hub}
 use Rattle.rules.specs.Cases.{either, each-verdict, each-request}
 use Rattle.demands.specs.Invariants.{OneAtMost}
@@ -33,16 +33,16 @@ module _ (n : ℕ) where
 
   entered : (h : Hub) (l : ℕ) (d : List ℕ) → One h → One (enter h l d .hub)
   unfolding enter
-  entered h l d p = either (λ (x : Password). One (x .hub)) (same d (h .password)) _ _ p p
+  entered h l d p = either (λ (x : Password). One (x .hub)) (isSame d (h .password)) _ _ p p
 
   changed : (h : Hub) (old new : List ℕ) → One h → One (change h old new .hub)
   unfolding change
-  changed h old new p = either (λ (x : Password). One (x .hub)) (same old (h .password)) _ _ p p
+  changed h old new p = either (λ (x : Password). One (x .hub)) (isSame old (h .password)) _ _ p p
 
   request-one : (h : Hub) (t : List ℕ) (l c : ℕ) (d : List ℕ) → One h → One (request h t l c d .hub)
   unfolding removeNodes virginState modeSend
   request-one h t l c d p =
-      each-request Kept h t l c d (λ e. entered h l d p) (changed h _ _ p) p p p p
+      each-request Kept h t l c d (λ e. entered h l d p) (λ e. changed h _ _ p) p p p p
       (omega (arith, close-holders n (sessions.holdsRemoved t d) sessions.slotCount (h .slots))) (free (length (h .slots)))
       (modeSend-holders n (h .slots) t l (sessions.modeSendOf d) p) p
 

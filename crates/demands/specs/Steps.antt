@@ -25,7 +25,7 @@ use Rattle.rules.specs.declared.FeedAnswer.{FeedAnswer}
 use Rattle.rules.specs.Answers.{refusalOf, startedOf, enrolledOf, ClosedLine, closedOf, FinishedSession, finishedOf, answerOf, fedOf}
 use Rattle.rules.specs.Promises.{Starts, Enrols, Closes, Finishes, Feeds}
 use Rattle.demands.specs.Calls as calls
-use Rattle.demands.specs.Calls.{isPassword, unlessRefused}
+use Rattle.demands.specs.Calls.{isPassword, unlessRefused, newPassword, replacedBy, startedWith}
 
 -- what is kept between calls: hub, table and the lines' records
 abbrev pub Memory : Type 0
@@ -168,6 +168,22 @@ loggedBy l b (feeds {m} {g} {a} {e = e} x) = cond (eqb (g .line) l && isPassword
 unfoldable pub loggedByAll : ℕ → Bool → {m e : Memory} {ss : List Step} {os : List Return} → Steps m ss os e → Bool
 loggedByAll l b stop = b
 loggedByAll l b (next x rest) = loggedByAll l (loggedBy l b x) rest
+
+-- ---- the password
+
+-- the password after a call, where p is that before it: a start that is not refused stores its own, and a feed that tells a change by the right
+-- password on a line that is logged in stores the new one
+unfoldable pub passwordBy : List ℕ → {m v : Memory} {s : Step} {o : Return} → Made m s o v → List ℕ
+passwordBy p (starts {p = q} a x) = startedWith (refusalOf a) q p
+passwordBy p (enrols a x) = p
+passwordBy p (closes x) = p
+passwordBy p (finishes x) = p
+passwordBy p (feeds {m} {g} {a} {e = e} x) = replacedBy (newPassword p (isLoggedIn (m .hub) (g .line)) (outcomeOf (answerOf a (e .bytes)))) p
+
+-- and after a list of calls
+unfoldable pub passwordByAll : List ℕ → {m e : Memory} {ss : List Step} {os : List Return} → Steps m ss os e → List ℕ
+passwordByAll p stop = p
+passwordByAll p (next x rest) = passwordByAll (passwordBy p x) rest
 
 -- ---- the definitions' calls
 

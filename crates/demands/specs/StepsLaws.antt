@@ -18,8 +18,8 @@ use Rattle.rules.specs.Hub as rules
 use Rattle.rules.specs.PromiseLaws.{feeds-promise}
 use Rattle.demands.specs.Kept.{start-any, enrol-any, close-any, finish-any, feed-any}
 use Rattle.demands.specs.Calls as calls
-use Rattle.demands.specs.Calls.{World, isPassword, unlessRefused, after, afterAll}
-use Rattle.demands.specs.Steps.{Memory, Step, start, enrol, close, finish, feed, Return, lineRecord, Made, starts, enrols, closes, finishes, feeds, Steps, stop, next, refusal, finishTells, feedTells, refusalTold, isRefusal, isRefused, isPrivileged, Unprivileged, loggedBy, loggedByAll, callOf}
+use Rattle.demands.specs.Calls.{World, isPassword, unlessRefused, newPassword, replacedBy, startedWith, after, afterAll}
+use Rattle.demands.specs.Steps.{Memory, Step, start, enrol, close, finish, feed, Return, lineRecord, Made, starts, enrols, closes, finishes, feeds, Steps, stop, next, refusal, finishTells, feedTells, refusalTold, isRefusal, isRefused, isPrivileged, Unprivileged, loggedBy, loggedByAll, passwordBy, passwordByAll, callOf}
 
 -- ---- what is left
 
@@ -124,6 +124,26 @@ unfolding loggedByAll calls.loggedByAll
 steps-logged l b stop = refl
 steps-logged l b (next {ss = ss} x rest) =
     steps-logged l (loggedBy l b x) rest ∙ ap₂ (λ (c : Bool) (w : World). calls.loggedByAll l c w (map callOf ss)) (made-logged l b x) (made-after x)
+
+-- ---- the password
+
+made-password : (before : List ℕ) {m v : Memory} {s : Step} {o : Return} (x : Made m s o v) → passwordBy before x ≡ calls.passwordBy before (worldOf m) (callOf s)
+unfolding passwordBy calls.passwordBy callOf worldOf entryOf resultOf refusal refusalTold
+made-password before (starts {m} {p} a {h} {t} x) = ap (λ (r : Option ℕ). startedWith r p before) (made-refusal (starts {m = m} {p = p} a {h = h} {t = t} x))
+made-password before (enrols a x) = refl
+made-password before (closes x) = refl
+made-password before (finishes x) = refl
+made-password before (feeds {m} {g} x) =
+    ap (λ (z : World × system.Result). replacedBy (newPassword before (rules.isLoggedIn (m .hub) (g .line)) (outcomeOf (z .1 .answer))) before) (sym (promise-feed m g (feeds-promise x)))
+
+pub steps-password : (p : List ℕ) {m e : Memory} {ss : List Step} {os : List Return} (x : Steps m ss os e)
+    → passwordByAll p x ≡ calls.passwordByAll p (worldOf m) (map callOf ss)
+unfolding passwordByAll calls.passwordByAll
+steps-password p stop = refl
+steps-password p (next {ss = ss} x rest) =
+    steps-password (passwordBy p x) rest ∙ ap₂ (λ (q : List ℕ) (w : World). calls.passwordByAll q w (map callOf ss)) (made-password p x) (made-after x)
+
+-- ---- privileged calls
 
 -- calls that are not privileged are not so as the definitions'
 pub steps-unprivileged : {m e : Memory} {ss : List Step} {os : List Return} (x : Steps m ss os e) → Unprivileged x → calls.Unprivileged (worldOf m) (map callOf ss)

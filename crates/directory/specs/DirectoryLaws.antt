@@ -1,13 +1,13 @@
 -- What the directory's rule and its lookup come to.
-use Prim.Native.Nat.{ℕ, _≤_, _<_}
+use Prim.Native.Nat.{ℕ, _<_}
 use mathlib.Core.Path.{_≡_, refl, sym, _∙_}
 use mathlib.Core.Logic.{_↔_}
 use mathlib.Core.Bool.{Bool, true, false, cond, _&&_}
 use mathlib.Core.Option.{Option, none, some, Option·none-ne-some, Option·some-injective}
 use native.Mathlib.Omega.{arith}
 use lib.ListN.{length}
-use lib.Dec.{T, leb}
-use borrow.Author.Tests.{leb-true, le-leb}
+use lib.Dec.{T, leb, eqb}
+use borrow.Author.Tests.{leb-true, le-leb, eqb-true, eqb-false}
 use Rattle.directory.specs.declared.Entry.{Entry}
 use Rattle.directory.specs.Directory.{count, entry, directory}
 use Rattle.directory.specs.Lookup.{find, inRange, unknownCommand, frameError, verdictOf, verdict, Stands, Allowed}
@@ -89,13 +89,22 @@ fits-exactly command len = (
     go none h f = absurd (Option·none-ne-some unknownCommand (sym f))
     go (some e) h f = within e (leb (e .least) len) (leb len (e .greatest)) refl refl h f
 
--- data that fit have a length in the range of the entry found
-fits-range : (command len : ℕ) (e : Entry) → find command directory ≡ some e → verdict command len ≡ none → (e .least ≤ len) × (len ≤ e .greatest)
-fits-range command len e h f =
-    let a = fits-exactly command len .0 f in
-    let same : a .entry ≡ e = Option·some-injective (a .entry) e (sym (found-exactly command (a .entry) .1 (a .stands, a .number)) ∙ h) in
-    (rw same at (a .least), rw same at (a .greatest))
+-- where the entry names one length, data fit exactly if they have that length
+pub verdict-fixed : (command size len : ℕ) → find command directory ≡ some (entry command size size) → verdict command len ≡ cond (eqb len size) none (some frameError)
+verdict-fixed command size len h = verdict-found command len (entry command size size) h ∙ go (eqb len size) refl (leb size len) refl (leb len size) refl
+  where
+    go : (b : Bool) → eqb len size ≡ b → (t : Bool) → leb size len ≡ t → (u : Bool) → leb len size ≡ u → cond (t && u) none (some frameError) ≡ cond b none (some frameError)
+    go true e t p u q =
+        let n : len ≡ size = eqb-true len size e in
+        rw (← p, ← q, le-leb size len (omega arith), le-leb len size (omega arith))
+    go false e true p true q = absurd (eqb-false len size e (omega (arith, leb-true size len p, leb-true len size q)))
+    go false e true p false q = refl
+    go false e false p u q = refl
 
--- where the entry names one length, data that fit have that length
+-- so data that fit have that length
 pub fits-fixed : (command size len : ℕ) → find command directory ≡ some (entry command size size) → verdict command len ≡ none → len ≡ size
-fits-fixed command size len h f = let r = fits-range command len (entry command size size) h f in omega (arith, r .0, r .1)
+fits-fixed command size len h f = go (eqb len size) refl (sym (verdict-fixed command size len h) ∙ f)
+  where
+    go : (b : Bool) → eqb len size ≡ b → cond b none (some frameError) ≡ none → len ≡ size
+    go true e q = eqb-true len size e
+    go false e q = absurd (Option·none-ne-some frameError (sym q))

@@ -18,11 +18,11 @@ use sessions::Owner;
 pub fn first() -> Hub
     ensures { λ r. ⌜ r ≡ firstHub ⌝ }
 {
-    fresh([0u8; rules::PASSWORD])
+    fresh([0u8; passwords::PASSWORD])
 }
 
 // A hub with a password, nobody logged in, no session.
-fn fresh(password: [u8; rules::PASSWORD]) -> Hub
+fn fresh(password: [u8; passwords::PASSWORD]) -> Hub
     ensures { λ r. ⌜ r ≡ freshHub password ⌝ }
 {
     Hub {
@@ -32,7 +32,7 @@ fn fresh(password: [u8; rules::PASSWORD]) -> Hub
     }
 }
 
-// Starts the hub anew: the table is zeroed.
+// Starts the hub anew: the password is stored with zeros from its first zero on, the table is zeroed.
 pub fn start(hub: Hub, table: &mut [u8], password: &[u8]) -> Started
     ensures { λ r. ⌜ Starts hub (now (table .entry)) (now (password .entry)) (r .answer) (r .hub) (now (table .exit)) ⌝ }
 {
@@ -42,16 +42,17 @@ pub fn start(hub: Hub, table: &mut [u8], password: &[u8]) -> Started
             hub: hub,
         };
     }
-    if password.len() != rules::PASSWORD {
+    if password.len() != passwords::PASSWORD {
         return Started {
             answer: CallAnswer::Refused(CallRefusal::WrongPassword),
             hub: hub,
         };
     }
     nodes::empty(table);
-    let mut secret = [0u8; rules::PASSWORD];
-    memory::copy(&mut secret, 0, password);
-    let next = fresh(secret);
+    let mut sent = [0u8; passwords::PASSWORD];
+    memory::copy(&mut sent, 0, password);
+    let kept = passwords::stored(sent);
+    let next = fresh(kept);
     Started {
         answer: CallAnswer::Done,
         hub: next,

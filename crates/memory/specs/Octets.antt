@@ -1,4 +1,4 @@
--- Bytes compared: passwords, and the words of a script.
+-- Bytes compared: the words of a script, and what is left of two passwords (crate passwords).
 use Prim.Native.Nat.{ℕ}
 use mathlib.Core.List.{List, [], _∷_}
 use mathlib.Core.Bool.{Bool, true, false, _&&_}

@@ -5,11 +5,11 @@ use mathlib.Core.List.{List, [], _∷_, map}
 use mathlib.Core.Bool.{true, false}
 use Rattle.memory.specs.Octets.{same}
 
-password : List ℕ
-password = 1 ∷ 0 ∷ 2 ∷ []
+bytes : List ℕ
+bytes = 1 ∷ 0 ∷ 2 ∷ []
 
-compared : map (same password) (password ∷ (1 ∷ 0 ∷ 3 ∷ []) ∷ (2 ∷ 0 ∷ 2 ∷ []) ∷ (1 ∷ 0 ∷ []) ∷ [] ∷ (1 ∷ 0 ∷ 2 ∷ 0 ∷ []) ∷ []) ≡ true ∷ false ∷ false ∷ false ∷ false ∷ false ∷ []
-unfolding same password
+compared : map (same bytes) (bytes ∷ (1 ∷ 0 ∷ 3 ∷ []) ∷ (2 ∷ 0 ∷ 2 ∷ []) ∷ (1 ∷ 0 ∷ []) ∷ [] ∷ (1 ∷ 0 ∷ 2 ∷ 0 ∷ []) ∷ []) ≡ true ∷ false ∷ false ∷ false ∷ false ∷ false ∷ []
+unfolding same bytes
 compared = refl
 
 none : map (same []) ([] ∷ (0 ∷ []) ∷ []) ≡ true ∷ false ∷ []

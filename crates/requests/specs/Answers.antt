@@ -1,5 +1,5 @@
 -- What the functions behind `call` answer: each is the definition's.
-use Prim.Native.Nat.{ℕ, _+_, _≤_}
+use Prim.Native.Nat.{ℕ, _≤_}
 use mathlib.Core.Path.{_≡_}
 use mathlib.Core.List.{List}
 use mathlib.Core.Bool.{cond}
@@ -11,7 +11,7 @@ use Rattle.frame.specs.Frame.{head}
 use Rattle.frame.specs.declared.FrameAt.{FrameAt}
 use Rattle.frame.specs.declared.FrameOutcome.{FrameOutcome}
 use Rattle.frame.specs.declared.FrameOutcome.the-variants as outcome
-use Rattle.memory.specs.Octets.{same}
+use Rattle.passwords.specs.Passwords.{isSame, stored}
 use Rattle.nodes.specs.Table.{setName, setOrderAndPlacement, setVariation, remove, emptied}
 use Rattle.sessions.specs.Sessions as sessions
 use Rattle.replies.specs.declared.Reply.{Reply}
@@ -23,7 +23,7 @@ use Rattle.rules.specs.declared.FeedAnswer.the-variants as feed
 use Rattle.rules.specs.declared.FedAt.{FedAt}
 use Rattle.rules.specs.declared.FedByValue.{FedByValue}
 use Rattle.rules.specs.Hub as rules
-use Rattle.rules.specs.Hub.{Response, passwordSize, withPassword, withSlots}
+use Rattle.rules.specs.Hub.{Response, passwordSize, changeSize, withPassword, withSlots}
 
 -- ---- the call
 
@@ -52,7 +52,7 @@ pub record Left : Type 0 where
 
 -- `change_password`, `log_in`: a password request does something only with status 0
 abbrev pub passwordLeft : ℕ → List ℕ → List ℕ → List ℕ
-passwordLeft s d p = cond (eqb s rules.correct) (drop passwordSize d) p
+passwordLeft s d p = cond (eqb s rules.correct) (stored (drop passwordSize d)) p
 
 abbrev pub loginsLeft : ℕ → ℕ → List ℕ → List ℕ
 loginsLeft s l ls = cond (eqb s rules.correct) (set ls l 1) ls
@@ -81,7 +81,7 @@ abbrev pub Enough : Reply → List ℕ → Type 0
 Enough reply.Nothing d = Unit {0}
 Enough (reply.Error e) d = Unit {0}
 Enough (reply.PasswordEntered s) d = Unit {0}
-Enough (reply.PasswordChanged s) d = length d ≡ passwordSize + passwordSize
+Enough (reply.PasswordChanged s) d = length d ≡ changeSize
 Enough (reply.AboutNode n) d = Unit {0}
 Enough (reply.VariationSet s n) d = Unit {0}
 Enough (reply.NameSet s n) d = 1 ≤ length d
@@ -110,7 +110,7 @@ pub record Decides (x : Response) (h : Hub) (t : List ℕ) (l : ℕ) (d : List �
 
 -- each request that has a status
 abbrev pub passwordStatus : List ℕ → List ℕ → ℕ
-passwordStatus p d = cond (same d p) rules.correct rules.incorrect
+passwordStatus p d = cond (isSame d p) rules.correct rules.incorrect
 
 abbrev pub varied : List ℕ → List ℕ → Reply
 varied t d = reply.VariationSet (setVariation t (getD d 0 0) (getD d 1 0) .status) (getD d 0 0)

@@ -2,15 +2,15 @@
 // do"). Nothing is changed here. The reply is the definition's, and so are hub and table once it is carried out: crate rules, specs/Hub.antt:
 // respond.
 ghost use mathlib.Core.Path.{_≡_};
-ghost use Prim.Native.Nat.{ℕ};
+ghost use Prim.Native.Nat.{ℕ, _+_, _≤_};
 ghost use mathlib.Core.List.{List};
 ghost use mathlib.Core.Option.{none};
-ghost use lib.ListN.{length};
+ghost use lib.ListN.{length, take, drop};
 ghost use Rattle.frame.specs.Frame.{frame};
 ghost use Rattle.nodes.specs.Table.{nodeStatus};
 ghost use Rattle.sessions.specs.Sessions.{modeSendSize, modeSendOf};
 ghost use Rattle.directory.specs.Lookup.{verdict};
-ghost use Rattle.rules.specs.Hub.{mayAsk, request, respond};
+ghost use Rattle.rules.specs.Hub.{passwordSize, mayAsk, request, respond};
 ghost use Rattle.replies.specs.declared.Reply.the-variants.{NameSet, OrderAndPlacementSet};
 ghost use Rattle.requests.specs.Answers.{hubOf, Decides, passwordStatus, varied, confirmed};
 use directory::Verdict;
@@ -19,6 +19,8 @@ use sessions::ModeSend;
 
 // The request that a line may ask before it is logged in.
 const PASSWORD_ENTER: u16 = 0x3000;
+
+const PASSWORD_CHANGE: u16 = 0x3002;
 
 // The bytes of the error frame.
 const UNKNOWN_COMMAND: u8 = 1;
@@ -34,7 +36,7 @@ const INCORRECT: u8 = 1;
 
 // The order of document 01: command unknown, length outside its range, not logged in, not served.
 pub(crate) fn decide(
-    password: &[u8; rules::PASSWORD],
+    password: &[u8; passwords::PASSWORD],
     logins: &[u8; rules::LINES],
     slots: &[u8; sessions::TABLE],
     table: &[u8],
@@ -67,7 +69,7 @@ fn may_ask(logins: [u8; rules::LINES], line: u8, command: u16) -> bool
 
 // A request by its number. SceneDeleted is 0.
 fn request(
-    password: &[u8; rules::PASSWORD],
+    password: &[u8; passwords::PASSWORD],
     slots: &[u8; sessions::TABLE],
     table: &[u8],
     line: u8,
@@ -78,8 +80,8 @@ fn request(
     ensures { λ r. ⌜ ((ls : List ℕ) → Decides (request (hubOf (now (password .entry)) ls (now (slots .entry))) (now (table .entry)) line command (now (payload .entry))) (hubOf (now (password .entry)) ls (now (slots .entry))) (now (table .entry)) line (now (payload .entry)) r) ⌝ }
 {
     match command {
-        PASSWORD_ENTER => Reply::PasswordEntered(password_status(password, payload)),
-        0x3002 => Reply::PasswordChanged(password_status(password, &payload[0..rules::PASSWORD])),
+        PASSWORD_ENTER => Reply::PasswordEntered(password_status(*password, payload)),
+        PASSWORD_CHANGE => Reply::PasswordChanged(password_status(*password, payload)),
         0x0200 => Reply::AboutNode(payload[0]),
         0x0206 => set_variation(table, payload),
         0x0208 => set_name(table, payload[0]),
@@ -91,14 +93,26 @@ fn request(
     }
 }
 
-// All bytes are compared with the password.
-fn password_status(password: &[u8], given: &[u8]) -> u8
-    ensures { λ r. ⌜ r ≡ passwordStatus (now (password .entry)) (now (given .entry)) ⌝ }
+// The data of both password requests begin with the password that is given.
+fn password_status(password: [u8; passwords::PASSWORD], payload: &[u8]) -> u8
+    requires { ⌜ passwordSize ≤ length (now payload) ⌝ }
+    ensures { λ r. ⌜ r ≡ passwordStatus password (take passwordSize (now (payload .entry))) ⌝ }
 {
-    if memory::is_same(given, password) {
+    let given = password_at(payload, 0);
+    if passwords::is_same(given, password) {
         return CORRECT;
     }
     INCORRECT
+}
+
+// The 32 bytes of a password in a request's data.
+pub(crate) fn password_at(payload: &[u8], start: usize) -> [u8; passwords::PASSWORD]
+    requires { ⌜ start + passwordSize ≤ length (now payload) ⌝ }
+    ensures { λ r. ⌜ r ≡ take passwordSize (drop start (now (payload .entry))) ⌝ }
+{
+    let mut bytes = [0u8; passwords::PASSWORD];
+    memory::copy(&mut bytes, 0, &payload[start..start + passwords::PASSWORD]);
+    bytes
 }
 
 fn set_variation(table: &[u8], payload: &[u8]) -> Reply

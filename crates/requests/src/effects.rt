@@ -1,16 +1,16 @@
 // What a request does once its reply is written (document 01, "What the commands do"): to the hub's password, logins and sessions, and to the
 // node table. They are those of specs/Answers.antt: carriedOut.
-ghost use Prim.Native.Nat.{_+_, _<_};
+ghost use Prim.Native.Nat.{_<_};
 ghost use mathlib.Core.Path.{_≡_};
 ghost use lib.ListN.{length};
 ghost use Rattle.sessions.specs.Sessions.{modeSendSize, modeSendOf, openedIf};
-ghost use Rattle.rules.specs.Hub.{lineCount, passwordSize};
+ghost use Rattle.rules.specs.Hub.{lineCount, changeSize};
 ghost use Rattle.requests.specs.Answers.{hubOf, passwordLeft, loginsLeft, carriedOut, Enough};
 use replies::Reply;
 
 // What was decided is done, by the reply, the line and the request's data.
 pub(crate) fn carry_out(
-    password: &mut [u8; rules::PASSWORD],
+    password: &mut [u8; passwords::PASSWORD],
     logins: &mut [u8; rules::LINES],
     slots: &mut [u8; sessions::TABLE],
     table: &mut [u8],
@@ -59,13 +59,15 @@ fn log_in(logins: &mut [u8; rules::LINES], line: u8, status: u8)
     }
 }
 
-// Password change with a status: where it is 0, the second half of the data is the password.
-fn change_password(password: &mut [u8; rules::PASSWORD], status: u8, payload: &[u8])
-    requires { ⌜ length (now payload) ≡ passwordSize + passwordSize ⌝ }
+// Password change with a status: where it is 0, the new half of the data is stored.
+fn change_password(password: &mut [u8; passwords::PASSWORD], status: u8, payload: &[u8])
+    requires { ⌜ length (now payload) ≡ changeSize ⌝ }
     ensures { λ r. ⌜ now (password .exit) ≡ passwordLeft status (now (payload .entry)) (now (password .entry)) ⌝ }
 {
     if status == crate::decide::CORRECT {
-        memory::copy(password, 0, &payload[rules::PASSWORD..]);
+        let sent = crate::decide::password_at(payload, passwords::PASSWORD);
+        let kept = passwords::stored(sent);
+        memory::copy(password, 0, &kept);
     }
 }
 

@@ -113,7 +113,7 @@ fn serve(
 fn told(
     read: FrameAt,
     len: usize,
-    password: [u8; rules::PASSWORD],
+    password: [u8; passwords::PASSWORD],
     logins: [u8; rules::LINES],
     slots: [u8; sessions::TABLE],
 ) -> FedAt
@@ -161,7 +161,7 @@ fn fed_of(bytes: [u8; line::LIMIT], fed: FedAt) -> FedByValue
 
 // What is answered to what was read, if it came to an outcome.
 fn decide_outcome(
-    password: &[u8; rules::PASSWORD],
+    password: &[u8; passwords::PASSWORD],
     logins: &[u8; rules::LINES],
     slots: &[u8; sessions::TABLE],
     table: &[u8],

@@ -74,7 +74,7 @@ Says r = Fit (r .says)
 request-says : (h : Hub) (t : List ℕ) (l c : ℕ) (d : List ℕ) → Says (request h t l c d)
 unfolding removeNodes virginState modeSend
 request-says h t l c d =
-    each-request Says h t l c d (λ x. (omega arith, tt)) (omega arith, tt) (aboutNode-fit t (getD d 0 0)) (omega arith, tt) (omega arith, tt) (omega arith, tt)
+    each-request Says h t l c d (λ x. (omega arith, tt)) (λ x. (omega arith, tt)) (aboutNode-fit t (getD d 0 0)) (omega arith, tt) (omega arith, tt) (omega arith, tt)
     (omega arith, tt) (omega arith, tt) (omega arith, tt) (omega arith, tt)
 
 respond-says : (h : Hub) (t : List ℕ) (l : ℕ) (o : Outcome) → Says (respond h t l o)

@@ -1,11 +1,12 @@
 -- The hub (document 01, "The command directory", "What the commands do", host calls, "Numbers of refusal").
-use Prim.Native.Nat.{ℕ}
+use Prim.Native.Nat.{ℕ, _+_}
 use mathlib.Core.List.{List, [], _∷_}
 use mathlib.Core.Bool.{Bool, true, false, cond, not, _||_}
 use mathlib.Core.Option.{Option, none, some}
 use lib.ListN.{length, take, drop, set, getD, replicate}
 use lib.Dec.{ltb, eqb}
-use Rattle.memory.specs.Octets.{same}
+use Rattle.passwords.specs.Passwords.{isSame, stored}
+pub use Rattle.passwords.specs.Passwords.{passwordSize}
 use Rattle.frame.specs.Frame.{Outcome, frame, refused}
 use Rattle.frame.specs.Reader.{State, emptied, read}
 pub use Rattle.frame.specs.Writer.{shortRoom}
@@ -20,8 +21,9 @@ use Rattle.rules.specs.declared.Hub.{Hub}
 abbrev pub lineCount : ℕ
 lineCount = 4
 
-abbrev pub passwordSize : ℕ
-passwordSize = 32
+-- the data of a password change: two passwords
+abbrev pub changeSize : ℕ
+changeSize = passwordSize + passwordSize
 
 -- ---- numbers of refusal, of the calls; 9 is the frame writer's too, and 13 the sessions'
 
@@ -97,18 +99,19 @@ correct = 0
 abbrev pub incorrect : ℕ
 incorrect = 1
 
--- all bytes are compared; equal gives status 0 and logs the line in; otherwise status 1 and the login stays as it was
+-- of both only the password is compared, the bytes before the first zero or all, and whole; equal gives status 0 and logs the line in;
+-- otherwise status 1 and the login stays as it was
 unfoldable pub enter : Hub → ℕ → List ℕ → Password
 enter h l d =
-    cond (same d (h .password))
+    cond (isSame d (h .password))
     (record { status = correct; hub = withLogin h l })
     (record { status = incorrect; hub = h })
 
--- the first 32 must equal the password, then the last 32 become it, status 0; otherwise status 1
+-- the first half is compared in the same way; equal, the new half is stored with zeros from its first zero on, status 0; otherwise status 1
 unfoldable pub change : Hub → List ℕ → List ℕ → Password
 change h old new =
-    cond (same old (h .password))
-    (record { status = correct; hub = withPassword h new })
+    cond (isSame old (h .password))
+    (record { status = correct; hub = withPassword h (stored new) })
     (record { status = incorrect; hub = h })
 
 -- by the request's data: the old password, and then the new
@@ -120,6 +123,9 @@ changed h d = change h (take passwordSize d) (drop passwordSize d)
 -- the request that a line may ask before it is logged in
 abbrev pub passwordEnter : ℕ
 passwordEnter = 0x3000
+
+abbrev pub passwordChange : ℕ
+passwordChange = 0x3002
 
 -- one frame is said
 abbrev pub reply : Hub → List ℕ → Message → Response
@@ -152,7 +158,7 @@ unfoldable pub request : Hub → List ℕ → ℕ → ℕ → List ℕ → Respo
 request h t l c d =
     let n = getD d 0 0 in
     cond (eqb c passwordEnter) (let r = enter h l d in reply (r .hub) t (passwordEntered (r .status)))
-    (cond (eqb c 0x3002) (let r = changed h d in reply (r .hub) t (passwordChanged (r .status)))
+    (cond (eqb c passwordChange) (let r = changed h d in reply (r .hub) t (passwordChanged (r .status)))
     (cond (eqb c 0x0200) (getNode h t n)
     (cond (eqb c 0x0206) (nodeReply h variationSet n (table.setVariation t n (getD d 1 0)))
     (cond (eqb c 0x0208) (nodeReply h nameSet n (table.setName t n (drop 1 d)))
@@ -192,7 +198,7 @@ serve h t l o = record { hub = respond h t l o .hub; table = respond h t l o .ta
 
 -- ---- host calls
 
--- start (password, table): zeroes the table, nobody logged in, no session
+-- start (password, table): the password is stored with zeros from its first zero on, the table zeroed, nobody logged in, no session
 pub record Started : Type 0 where
   pub refusal : Option ℕ
   pub hub : Hub
@@ -210,7 +216,7 @@ startRefusal t p = refuseTable t (refuseIf (not (eqb (length p) passwordSize)) w
 
 abbrev pub startBy : Option ℕ → Hub → List ℕ → List ℕ → Started
 startBy (some n) h t p = record { refusal = some n; hub = h; table = t }
-startBy none h t p = record { refusal = none; hub = freshHub p; table = table.emptied t }
+startBy none h t p = record { refusal = none; hub = freshHub (stored p); table = table.emptied t }
 
 abbrev pub start : Hub → List ℕ → List ℕ → Started
 start h t p = startBy (startRefusal t p) h t p

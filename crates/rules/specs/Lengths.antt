@@ -17,7 +17,7 @@ Kept t r = length (r .table) ≡ length t
 request-kept : (h : Hub) (t : List ℕ) (l c : ℕ) (d : List ℕ) → Kept t (request h t l c d)
 unfolding removeNodes virginState modeSend
 request-kept h t l c d =
-    each-request (Kept t) h t l c d (λ e. refl) refl refl
+    each-request (Kept t) h t l c d (λ e. refl) (λ e. refl) refl
     (setVariation-length t (getD d 0 0) (getD d 1 0)) (setField-length table.nameField t (getD d 0 0) (drop 1 d))
     (setField-length table.orderAndPlacement t (getD d 0 0) (drop 1 d)) (remove-length d table.nodeCount t) (length-replicate (length t) 0) refl refl
 

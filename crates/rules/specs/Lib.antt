@@ -1,6 +1,7 @@
 pub mod Hub
 pub mod Cases
 pub mod Refusals
+pub mod PasswordLaws
 pub mod Promises
 pub mod Lengths
 pub mod Frames

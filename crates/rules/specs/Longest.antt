@@ -120,7 +120,7 @@ about-short t n =
 request-short : (h : Hub) (t : List ℕ) (l c : ℕ) (d : List ℕ) → Short (request h t l c d)
 unfolding removeNodes virginState modeSend
 request-short h t l c d =
-    each-request Short h t l c d (λ e. frame-short _ (omega arith)) (frame-short _ (omega arith)) (about-short t (getD d 0 0))
+    each-request Short h t l c d (λ e. frame-short _ (omega arith)) (λ e. frame-short _ (omega arith)) (about-short t (getD d 0 0))
     (frame-short _ (omega arith)) (frame-short _ (omega arith)) (frame-short _ (omega arith)) (frame-short _ (omega arith))
     (frame-short _ (omega arith)) (frame-short _ (omega arith)) (frame-short _ (omega arith))
 

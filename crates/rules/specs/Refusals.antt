@@ -12,6 +12,7 @@ use Rattle.frame.specs.Reader.{State, emptied, read, taken}
 use lib.Dec.{ltb, eqb}
 use lib.ListN.{length, drop, replicate}
 use borrow.Author.Tests.{eq-eqb, eqb-true, ne-eqb, lt-ltb, ltb-true, le-ltb}
+use Rattle.passwords.specs.Passwords.{stored}
 use Rattle.nodes.specs.Table.{tableSize, nodeCount, inUse, enrolled}
 use Rattle.nodes.specs.TableLaws.{used-below}
 use Rattle.sessions.specs.Sessions as sessions
@@ -92,7 +93,8 @@ written-served h t l o = ap (λ (x : Reply). x .reply) (served h t l o)
 
 -- ---- when a call is refused, in the order of the numbers
 
--- start: a table of another length (7), a password that has not 32 bytes (14); otherwise it zeroes the table, nobody is logged in, and there is no session
+-- start: a table of another length (7), a password that has not 32 bytes (14); otherwise it stores the password, zeroes the
+-- table, nobody is logged in, and there is no session
 pub start-table : (h : Hub) (t p : List ℕ) → (length t ≡ tableSize → ⊥) → start h t p .refusal ≡ some 7
 start-table h t p e = rw (ne-eqb (length t) tableSize e)
 
@@ -100,7 +102,7 @@ pub start-password : (h : Hub) (t p : List ℕ) → length t ≡ tableSize → (
 start-password h t p e k = rw (eq-eqb (length t) tableSize e, ne-eqb (length p) passwordSize k)
 
 pub start-done : (h : Hub) (t p : List ℕ) → length t ≡ tableSize → length p ≡ 32
-    → start h t p ≡ record { refusal = none; hub = record { password = p; logins = 0 ∷ 0 ∷ 0 ∷ 0 ∷ []; slots = replicate sessionsSize 0 }; table = replicate tableSize 0 }
+    → start h t p ≡ record { refusal = none; hub = record { password = stored p; logins = 0 ∷ 0 ∷ 0 ∷ 0 ∷ []; slots = replicate sessionsSize 0 }; table = replicate tableSize 0 }
 start-done h t p e k = rw (eq-eqb (length t) tableSize e, eq-eqb (length p) passwordSize k) (rw e)
 
 -- enrol: a table of another length (7), a node above 199 (11), one that is in use (12)

@@ -21,6 +21,7 @@ use Rattle.replies.specs.Messages.{variationSet, modeSendConfirmed, bytesOf, ab
 use Rattle.rules.specs.declared.Hub.{Hub}
 use Rattle.rules.specs.Hub as rules
 use Rattle.memory.specs.Octets.{same}
+use Rattle.passwords.specs.Passwords.{passwordOf}
 use Rattle.rules.specs.Hub.{Reply, firstHub, respond, serve, request, enter, start, enrol, Closed, close, finish}
 
 -- ---- hubs and tables
@@ -32,9 +33,9 @@ hubWith b = record { password = replicate 32 8; logins = 1 ∷ 0 ∷ 1 ∷ 0 ∷
 abbrev loggedIn : Hub
 loggedIn = hubWith (replicate sessionsSize 0)
 
--- a hub with another password, and one of which line 2 is not logged in
-abbrev passwordChanged : Hub → Hub
-passwordChanged h = record { password = replicate 32 9; logins = h .logins; slots = h .slots }
+-- a hub that keeps another password, and one of which line 2 is not logged in
+abbrev keeping : List ℕ → Hub → Hub
+keeping p h = record { password = p; logins = h .logins; slots = h .slots }
 
 abbrev loggedOut : Hub → Hub
 loggedOut h = record { password = h .password; logins = 1 ∷ 0 ∷ 0 ∷ 0 ∷ []; slots = h .slots }
@@ -106,6 +107,28 @@ passwords =
     ∷ answers moving (frame 0x3000 (replicate 31 8 ++ 1 ∷ [])) (wire 0x3001 (1 ∷ []))
     ∷ []
 
+-- n times 8, a zero, and old bytes behind it
+abbrev eights : ℕ → ℕ → List ℕ
+eights n old = replicate n 8 ++ 0 ∷ replicate (31 - n) old
+
+-- a hub with the password 8, 8, and old bytes behind its zero: an entry with others, one that is shorter, longer, empty, and of other bytes
+abbrev twoEights : Hub → Hub
+twoEights h = keeping (eights 2 5) h
+
+abbrev entries : List Row
+entries =
+    leaves (twoEights (loggedOut moving)) 4 (frame 0x3000 (eights 2 6)) (twoEights moving) (wire 0x3001 (0 ∷ []))
+    ∷ leaves (twoEights (loggedOut moving)) 4 (frame 0x3000 (eights 2 0)) (twoEights moving) (wire 0x3001 (0 ∷ []))
+    ∷ answers (twoEights (loggedOut moving)) (frame 0x3000 (eights 1 5)) (wire 0x3001 (1 ∷ []))
+    ∷ answers (twoEights (loggedOut moving)) (frame 0x3000 (eights 3 5)) (wire 0x3001 (1 ∷ []))
+    ∷ answers (twoEights (loggedOut moving)) (frame 0x3000 (eights 0 5)) (wire 0x3001 (1 ∷ []))
+    ∷ answers (twoEights (loggedOut moving)) (frame 0x3000 (8 ∷ 9 ∷ 0 ∷ replicate 29 5)) (wire 0x3001 (1 ∷ []))
+    ∷ answers (twoEights (loggedOut moving)) (frame 0x3000 (replicate 32 8)) (wire 0x3001 (1 ∷ []))
+    -- the empty one, on a hub that has it
+    ∷ leaves (keeping (eights 0 5) (loggedOut moving)) 4 (frame 0x3000 (eights 0 6)) (keeping (eights 0 5) moving) (wire 0x3001 (0 ∷ []))
+    ∷ answers (keeping (eights 0 5) (loggedOut moving)) (frame 0x3000 (eights 1 5)) (wire 0x3001 (1 ∷ []))
+    ∷ []
+
 -- the error frame
 abbrev error : ℕ → List ℕ
 error e = wire 0x0000 (e ∷ [])
@@ -137,12 +160,18 @@ misfits =
     ∷ misfit 0x0320 30 ∷ misfit 0x0320 32
     ∷ []
 
--- the last 32 bytes become the password, or nothing changes; equal old and new is accepted
+-- the last 32 bytes become the password, with zeros from their first zero on, or nothing changes; equal old and new is accepted
 abbrev changes : List Row
 changes =
-    leaves moving 4 (frame 0x3002 (replicate 32 8 ++ replicate 32 9)) (passwordChanged moving) (wire 0x3003 (0 ∷ []))
+    leaves moving 4 (frame 0x3002 (replicate 32 8 ++ replicate 32 9)) (keeping (replicate 32 9) moving) (wire 0x3003 (0 ∷ []))
     ∷ answers moving (frame 0x3002 (replicate 31 8 ++ 9 ∷ replicate 32 8)) (wire 0x3003 (1 ∷ []))
     ∷ answers moving (frame 0x3002 (replicate 64 8)) (wire 0x3003 (0 ∷ []))
+    ∷ leaves (twoEights moving) 4 (frame 0x3002 (eights 2 6 ++ eights 3 7)) (keeping (eights 3 0) moving) (wire 0x3003 (0 ∷ []))
+    ∷ leaves (twoEights moving) 4 (frame 0x3002 (eights 2 5 ++ eights 2 5)) (keeping (eights 2 0) moving) (wire 0x3003 (0 ∷ []))
+    ∷ leaves moving 4 (frame 0x3002 (replicate 32 8 ++ eights 0 7)) (keeping (replicate 32 0) moving) (wire 0x3003 (0 ∷ []))
+    ∷ leaves moving 4 (frame 0x3002 (replicate 32 8 ++ eights 31 7)) (keeping (eights 31 0) moving) (wire 0x3003 (0 ∷ []))
+    ∷ answers (twoEights moving) (frame 0x3002 (eights 1 5 ++ eights 3 7)) (wire 0x3003 (1 ∷ []))
+    ∷ answers (twoEights moving) (frame 0x3002 (eights 3 5 ++ eights 3 7)) (wire 0x3003 (1 ∷ []))
     ∷ []
 
 -- 0210 follows 0201 where the node is in use; a table of another length tells of none
@@ -205,10 +234,10 @@ removals =
     ∷ []
 
 abbrev rows : List Row
-rows = passwords ++ errors ++ misfits ++ changes ++ information ++ confirms ++ modeSends ++ removals
+rows = passwords ++ entries ++ errors ++ misfits ++ changes ++ information ++ confirms ++ modeSends ++ removals
 
 rows-hold : map tried rows ≡ rows
-unfolding serve respond bytesOf aboutNode request enter same rules.change rules.virginState rules.removeNodes rules.modeSend full withSlot sessions.slotsOf sessions.closeBelow sessions.closeOne sessions.modeSend sessions.modeSendStatus sessions.isLegal sessions.targetsLegal sessions.marked sessions.withBit sessions.holdsRemoved search.any search.first search.below table.setVariation table.setField table.inUse table.bit table.removeBelow table.removeOne lookup.verdict lookup.verdictOf lookup.find directory wire escape framed body xor.xorAll xor._⊕_
+unfolding serve respond bytesOf aboutNode request enter passwordOf same rules.change rules.virginState rules.removeNodes rules.modeSend full withSlot sessions.slotsOf sessions.closeBelow sessions.closeOne sessions.modeSend sessions.modeSendStatus sessions.isLegal sessions.targetsLegal sessions.marked sessions.withBit sessions.holdsRemoved search.any search.first search.below table.setVariation table.setField table.inUse table.bit table.removeBelow table.removeOne lookup.verdict lookup.verdictOf lookup.find directory wire escape framed body xor.xorAll xor._⊕_
 rows-hold = refl
 
 -- data bytes that are missing count as 0, and a line that is missing is not logged in; the directory and feed let neither come
@@ -227,12 +256,14 @@ numbers = refl
 
 -- ---- host calls
 
--- start judges the table before the password; a refused one leaves hub and table
+-- start judges the table before the password; a refused one leaves hub and table; old bytes behind the password's zero are not kept
 started : start moving (replicate 14399 1) (replicate 31 5) ∷ start moving (replicate 14400 1) (replicate 31 5) ∷ start moving (replicate 14400 1) (replicate 33 5)
-    ∷ start moving (replicate 14400 1) (replicate 32 5) ∷ []
+    ∷ start moving (replicate 14400 1) (replicate 32 5) ∷ start moving (replicate 14400 1) (eights 2 5) ∷ []
     ≡ record { refusal = some 7; hub = moving; table = replicate 14399 1 } ∷ record { refusal = some 14; hub = moving; table = replicate 14400 1 }
     ∷ record { refusal = some 14; hub = moving; table = replicate 14400 1 }
-    ∷ record { refusal = none; hub = record { password = replicate 32 5; logins = replicate 4 0; slots = replicate 232 0 }; table = replicate 14400 0 } ∷ []
+    ∷ record { refusal = none; hub = record { password = replicate 32 5; logins = replicate 4 0; slots = replicate 232 0 }; table = replicate 14400 0 }
+    ∷ record { refusal = none; hub = record { password = eights 2 0; logins = replicate 4 0; slots = replicate 232 0 }; table = replicate 14400 0 } ∷ []
+unfolding passwordOf
 started = refl
 
 -- enrol judges the table, then the node, then its use; the type goes high byte first, other fields are zero

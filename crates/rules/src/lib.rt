@@ -10,15 +10,13 @@ use line::Reading;
 pub use logins::is_logged_in;
 pub use refusals::number;
 
-// Serial lines, and the bytes of a password.
+// Serial lines.
 pub const LINES: usize = 4;
-
-pub const PASSWORD: usize = 32;
 
 // The hub's state: a line is logged in exactly if its number in `logins` is 1; `slots` is the session table. The node table is lent to each
 // call; the reading states are the serial service's.
 pub struct Hub {
-    pub password: [u8; PASSWORD],
+    pub password: [u8; passwords::PASSWORD],
     pub logins: [u8; LINES],
     pub slots: [u8; sessions::TABLE],
 }

@@ -1,10 +1,12 @@
 -- Laws of the requests: what is decided says what the definition's response says, and leaves its hub and table once it is carried out.
-use Prim.Native.Nat.{ℕ, _+_, _≤_}
+use Prim.Native.Nat.{ℕ, _≤_}
 use mathlib.Core.Path.{_≡_, refl, sym, ap}
 use mathlib.Core.List.{List, [], _∷_}
 use mathlib.Core.Bool.{Bool, true, false, cond}
+use native.Mathlib.Omega.{arith}
 use lib.ListN.{length, take, drop, getD}
-use Rattle.memory.specs.Octets.{same}
+use lib.Seq.{take-all}
+use Rattle.passwords.specs.Passwords.{isSame, stored}
 use Rattle.nodes.specs.Table.{nameField, orderAndPlacement, nodeStatus, setName, setOrderAndPlacement, setVariation}
 use Rattle.nodes.specs.TableLaws.{setField-status}
 use Rattle.sessions.specs.Sessions as sessions
@@ -12,7 +14,7 @@ use Rattle.replies.specs.Messages.{passwordEntered, passwordChanged, variationS
 use Rattle.replies.specs.declared.Reply.the-variants as reply
 use Rattle.rules.specs.declared.Hub.{Hub}
 use Rattle.rules.specs.Hub as rules
-use Rattle.rules.specs.Hub.{Password, passwordSize, correct, incorrect, withLogin, withPassword, enter, change, changed, failure, nodeReply, removeNodes, virginState, modeSend}
+use Rattle.rules.specs.Hub.{Password, passwordSize, changeSize, correct, incorrect, withLogin, withPassword, enter, change, changed, failure, nodeReply, removeNodes, virginState, modeSend}
 use Rattle.requests.specs.Answers.{Decides, passwordStatus, varied, confirmed}
 
 module _ (h : Hub) (t : List ℕ) (l : ℕ) (d : List ℕ) where
@@ -21,21 +23,22 @@ module _ (h : Hub) (t : List ℕ) (l : ℕ) (d : List ℕ) where
   failed-decides e = record { says = refl; left = refl; enough = tt }
 
   -- the password requests: what they do goes by the status
-  pub entered-decides : Decides (rules.reply (enter h l d .hub) t (passwordEntered (enter h l d .status))) h t l d (reply.PasswordEntered (passwordStatus (h .password) d))
+  pub entered-decides : length d ≡ passwordSize
+      → Decides (rules.reply (enter h l d .hub) t (passwordEntered (enter h l d .status))) h t l d (reply.PasswordEntered (passwordStatus (h .password) (take passwordSize d)))
   unfolding enter
-  entered-decides = go (same d (h .password))
+  entered-decides n = rw (take-all passwordSize d (omega arith)) (go (isSame d (h .password)))
     where
       go : (b : Bool) → let x = cond {A = Password} b (record { status = correct; hub = withLogin h l }) (record { status = incorrect; hub = h }) in
           Decides (rules.reply (x .hub) t (passwordEntered (x .status))) h t l d (reply.PasswordEntered (cond b correct incorrect))
       go true = record { says = refl; left = refl; enough = tt }
       go false = record { says = refl; left = refl; enough = tt }
 
-  pub changed-decides : length d ≡ passwordSize + passwordSize
+  pub changed-decides : length d ≡ changeSize
       → Decides (rules.reply (changed h d .hub) t (passwordChanged (changed h d .status))) h t l d (reply.PasswordChanged (passwordStatus (h .password) (take passwordSize d)))
   unfolding change
-  changed-decides n = go (same (take passwordSize d) (h .password))
+  changed-decides n = go (isSame (take passwordSize d) (h .password))
     where
-      go : (b : Bool) → let x = cond {A = Password} b (record { status = correct; hub = withPassword h (drop passwordSize d) }) (record { status = incorrect; hub = h }) in
+      go : (b : Bool) → let x = cond {A = Password} b (record { status = correct; hub = withPassword h (stored (drop passwordSize d)) }) (record { status = incorrect; hub = h }) in
           Decides (rules.reply (x .hub) t (passwordChanged (x .status))) h t l d (reply.PasswordChanged (cond b correct incorrect))
       go true = record { says = refl; left = refl; enough = n }
       go false = record { says = refl; left = refl; enough = n }

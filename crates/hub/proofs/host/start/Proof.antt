@@ -1,7 +1,8 @@
 use lib.ListN.{replicate}
-use mathlib.Core.Path.{_∙_}
+use mathlib.Core.Path.{ap, _∙_}
 use borrow.Author.Tests.{eq-eqb, ne-eqb}
 use Rattle.memory.specs.WroteLaws.{sets-whole}
+use Rattle.passwords.specs.Passwords.{stored}
 use Rattle.rules.specs.Hub.{passwordSize}
 use borrow.Author.Needs.{needs}
 use Rattle.hub.proofs.host.start.Statement.{statement}
@@ -22,6 +23,9 @@ slice-aggregate-copy c = search needs
 copy-requires : tie.Need-copy-requires
 copy-requires c κs = search needs
 
+stored-requires : tie.Need-stored-requires
+stored-requires c κs = search needs
+
 fresh-requires : tie.Need-fresh-requires
 fresh-requires c κs = search needs
 
@@ -30,9 +34,10 @@ same-length c = search needs
 
 returns-3 : tie.Need-returns-3
 returns-3 c =
-    let p = c .before .before .before .before .before .before .before .before .before .before .before .before .args .password .now in
-    let whole = c .before .before .copy .ensures ∙ sets-whole (replicate passwordSize 0) p (c .before .before .before .before .before .before .before .before .if2 .left) in
-    simp (eq-eqb _ _ (c .before .before .before .before .before .before .before .before .before .if1 .left), eq-eqb _ _ (c .before .before .before .before .before .before .before .before .if2 .left), c .before .before .before .before .before .before .empty .ensures, c .fresh .ensures, whole)
+    let p = c .before .before .before .before .before .before .before .before .before .before .before .before .before .args .password .now in
+    let whole = c .before .before .before .copy .ensures ∙ sets-whole (replicate passwordSize 0) p (c .before .before .before .before .before .before .before .before .before .if2 .left) in
+    let kept = c .before .stored .ensures ∙ ap stored whole in
+    simp (eq-eqb _ _ (c .before .before .before .before .before .before .before .before .before .before .if1 .left), eq-eqb _ _ (c .before .before .before .before .before .before .before .before .before .if2 .left), c .before .before .before .before .before .before .before .empty .ensures, c .fresh .ensures, kept)
 
 pub start-spec : {M : Type 1} → statement M
 start-spec =
@@ -43,6 +48,7 @@ start-spec =
     empty-requires
     slice-aggregate-copy
     copy-requires
+    stored-requires
     fresh-requires
     same-length
     returns-3)

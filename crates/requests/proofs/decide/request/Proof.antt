@@ -1,11 +1,10 @@
 use Rattle.sessions.specs.Sessions.{modeSendSize}
-use Rattle.rules.specs.Hub.{passwordSize, request}
+use Rattle.rules.specs.Hub.{passwordSize, changeSize, request}
 use Rattle.directory.specs.DirectoryLaws.{fits-fixed}
 use Rattle.directory.specs.Lookup.{find}
 use Rattle.directory.specs.Directory.{directory}
 use Rattle.requests.proofs.decide.Laws.{failed-decides, entered-decides, changed-decides, varied-decides, named-decides, placed-decides, removed-decides, zeroed-decides, sent-decides}
 use borrow.Author.Tests.{ne-eqb}
-use Prim.Native.Nat.{_+_, _-_}
 use native.Mathlib.Omega.{arith}
 use mathlib.Core.Path.{refl}
 use borrow.Author.Needs.{needs}
@@ -13,26 +12,20 @@ use Rattle.requests.proofs.decide.request.Statement.{statement}
 use Rattle.requests.proofs.decide.request.Tie as tie
 
 password-status-requires : tie.Need-password-status-requires
-password-status-requires c κs = search needs
-
-sub-password-status : tie.Need-sub-password-status
-sub-password-status c = search needs
-
-part-password-status-start : tie.Need-part-password-status-start
-part-password-status-start c = search needs
-
-part-password-status-end : tie.Need-part-password-status-end
 unfolding find directory
-part-password-status-end c =
-    let n = fits-fixed 0x3002 (passwordSize + passwordSize) _ refl (rw (c .before .match .keys2) at (c .before .before .before .before .pre)) in
+password-status-requires c κs =
+    let n = fits-fixed 0x3000 passwordSize _ refl (rw (c .before .match .keys1) at (c .before .before .before .before .pre)) in
     omega (arith, n)
 
 password-status-requires-2 : tie.Need-password-status-requires-2
-password-status-requires-2 c κs = search needs
-
-shared-slice-read-t19 : tie.Need-shared-slice-read-t19
 unfolding find directory
-shared-slice-read-t19 c =
+password-status-requires-2 c κs =
+    let n = fits-fixed 0x3002 changeSize _ refl (rw (c .before .match .keys2) at (c .before .before .before .before .pre)) in
+    omega (arith, n)
+
+shared-slice-read-t13 : tie.Need-shared-slice-read-t13
+unfolding find directory
+shared-slice-read-t13 c =
     let n = fits-fixed 0x0200 1 _ refl (rw (c .before .match .keys3) at (c .before .before .before .before .pre)) in
     omega (arith, n)
 
@@ -63,12 +56,12 @@ unfolding find directory
 mode-send-requires c κs = fits-fixed 0x0320 modeSendSize _ refl (rw (c .match .keys9) at (c .before .before .before .pre))
 
 returns : tie.Need-returns
-unfolding request
-returns c = λ ls. rw (c .before .before .match .keys1, c .password-status .ensures) (entered-decides _ _ _ _)
+unfolding request find directory
+returns c = λ ls. rw (c .before .before .match .keys1, c .password-status .ensures) (entered-decides _ _ _ _ (fits-fixed 0x3000 passwordSize _ refl (rw (c .before .before .match .keys1) at (c .before .before .before .before .before .pre))))
 
 returns-2 : tie.Need-returns-2
 unfolding request find directory
-returns-2 c = λ ls. rw (c .before .before .before .match .keys2, c .password-status2 .ensures) (changed-decides _ _ _ _ (fits-fixed 0x3002 (passwordSize + passwordSize) _ refl (rw (c .before .before .before .match .keys2) at (c .before .before .before .before .before .before .pre))))
+returns-2 c = λ ls. rw (c .before .before .match .keys2, c .password-status2 .ensures) (changed-decides _ _ _ _ (fits-fixed 0x3002 changeSize _ refl (rw (c .before .before .match .keys2) at (c .before .before .before .before .before .pre))))
 
 returns-3 : tie.Need-returns-3
 unfolding request
@@ -113,11 +106,8 @@ request-spec =
     tie.close
     (tie.spec
     password-status-requires
-    sub-password-status
-    part-password-status-start
-    part-password-status-end
     password-status-requires-2
-    shared-slice-read-t19
+    shared-slice-read-t13
     set-variation-requires
     shared-slice-read-set-name
     set-name-requires
