@@ -5,6 +5,7 @@
 
 pub mod commands;
 pub mod nodes;
+pub mod password;
 pub mod refusals;
 mod serve;
 pub mod sessions;
@@ -18,12 +19,14 @@ use serve::{Change, Served};
 use sessions::Sessions;
 
 pub const LINES: usize = 4;
+/// The bytes that a password is sent and kept in.
 pub const PASSWORD: usize = 32;
 /// Room that every reply fits.
 pub const ROOM_ENOUGH: usize = 512;
 
 #[derive(Clone, Debug, PartialEq, Eq)]
 pub struct Hub {
+    /// There may be bytes behind the zero, though no call leaves any.
     pub password: [u8; PASSWORD],
     pub logins: [bool; LINES],
     pub sessions: Sessions,
@@ -78,7 +81,7 @@ impl Hub {
             (CallRefusal::Password, password.len() != PASSWORD),
         ])?;
         *self = Hub::new();
-        self.password.copy_from_slice(password);
+        self.password = password::stored(password);
         table.fill(0);
         Ok(())
     }

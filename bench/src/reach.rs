@@ -2,6 +2,7 @@
 //! the model while it answers.
 
 pub mod cuts;
+pub mod passwords;
 pub mod rooms;
 
 use std::collections::{BTreeMap, BTreeSet, HashMap};
@@ -17,12 +18,14 @@ use crate::replay::call::{bad_words, Bad, BadWord, Call, LINE_MOST};
 use crate::replay::lines;
 use crate::replay::{mode_name, Replay, Told};
 use cuts::Cuts;
+use passwords::Passwords;
 use rooms::Rooms;
 
 /// Unknown numbers that must be sent in all.
 pub const UNKNOWN_LEAST: usize = 1000;
 
-/// Everything that is counted, bad words, rooms and broken packets apart.
+/// Everything that is counted, bad words, rooms, broken packets and passwords
+/// apart.
 const ROWS: [&str; 127] = [
     "start done",
     "start refused 7",
@@ -161,6 +164,7 @@ pub struct Reach {
     counts: HashMap<&'static str, u64>,
     rooms: Rooms,
     cuts: Cuts,
+    passwords: Passwords,
     bad_words: BTreeMap<BadWord, u64>,
     sent: BTreeSet<Sent>,
     unknown: BTreeSet<u16>,
@@ -175,6 +179,7 @@ impl Default for Reach {
             counts: all_rows().map(|row| (row, 0)).collect(),
             rooms: Rooms::default(),
             cuts: Cuts::default(),
+            passwords: Passwords::default(),
             bad_words: bad_words().into_iter().map(|word| (word, 0)).collect(),
             sent: BTreeSet::new(),
             unknown: BTreeSet::new(),
@@ -217,6 +222,7 @@ impl Reach {
         let mut watch = Watch::default();
         let mut room_watch = rooms::Watch::default();
         let mut cut_watch = cuts::Watch::default();
+        let mut password_watch = passwords::Watch::default();
         let mut answers = Vec::new();
         let mut last = Told::Remark;
         for line in lines::all(script) {
@@ -228,6 +234,8 @@ impl Reach {
                 self.count_lent(&call);
                 self.count_told(&call, told, &replay);
                 self.count_state(&call, told, &replay, &mut watch);
+                self.passwords
+                    .count(&call, told, &replay, &mut password_watch);
                 for row in self.cuts.count(&call, told, &replay, &mut cut_watch) {
                     self.count(&row);
                 }
@@ -427,6 +435,7 @@ impl Reach {
         }
         self.rooms.add(&other.rooms);
         self.cuts.add(&other.cuts);
+        self.passwords.add(&other.passwords);
         for (word, count) in &other.bad_words {
             *self.bad_words.entry(*word).or_default() += count;
         }
@@ -445,6 +454,7 @@ impl Reach {
         rows.map(str::to_string)
             .chain(self.rooms.missing())
             .chain(self.cuts.missing())
+            .chain(self.passwords.missing())
             .chain(words.map(named))
             .collect()
     }
@@ -550,8 +560,8 @@ fn freer(call: &Call, told: &Told) -> &'static str {
 }
 
 /// A line for each row, for each kind of reply with its rooms, for each packet
-/// refusal with its places and its feeds and for each place of a bad word, and
-/// what was sent of the directory.
+/// refusal with its places and its feeds, for each kind of password and for each
+/// place of a bad word, and what was sent of the directory.
 impl fmt::Display for Reach {
     fn fmt(&self, out: &mut fmt::Formatter) -> fmt::Result {
         for row in all_rows() {
@@ -559,6 +569,7 @@ impl fmt::Display for Reach {
         }
         write!(out, "{}", self.rooms)?;
         write!(out, "{}{}", self.cuts.breaks, self.cuts.cuts)?;
+        write!(out, "{}", self.passwords)?;
         let mut places: BTreeMap<(&str, usize), Vec<(&BadWord, u64)>> = BTreeMap::new();
         for (word, &count) in &self.bad_words {
             let words = places.entry((word.call, word.number)).or_default();

@@ -8,6 +8,7 @@ pub mod broken;
 pub mod damage;
 pub mod host;
 pub mod load;
+pub mod passwords;
 pub mod requests;
 pub mod rooms;
 pub mod writer;
@@ -62,10 +63,12 @@ pub enum Kind {
     Cuts,
     /// Packets that break, cut around the place.
     Broken,
+    /// Passwords with stale bytes behind their zero, entered and changed.
+    Passwords,
 }
 
 impl Kind {
-    pub const ALL: [Kind; 12] = [
+    pub const ALL: [Kind; 13] = [
         Kind::Directory,
         Kind::Unknown,
         Kind::Requests,
@@ -78,6 +81,7 @@ impl Kind {
         Kind::Mixed,
         Kind::Cuts,
         Kind::Broken,
+        Kind::Passwords,
     ];
 
     pub fn name(self) -> &'static str {
@@ -94,6 +98,7 @@ impl Kind {
             Kind::Mixed => "mixed",
             Kind::Cuts => "cuts",
             Kind::Broken => "broken",
+            Kind::Passwords => "passwords",
         }
     }
 
@@ -210,7 +215,7 @@ fn set_login(writer: &mut Writer, line: u8, login: bool) {
         return;
     }
     if login {
-        let password = writer.replay.hub.password;
+        let password = passwords::right(writer);
         writer.send_one(line, sender::wire(PASSWORD_ENTER, &password));
     } else {
         host::close(writer, line);
@@ -235,6 +240,7 @@ fn step(writer: &mut Writer, kind: Kind) {
         Kind::Names => names(writer),
         Kind::Rooms => rooms::some(writer),
         Kind::Broken => broken::some(writer),
+        Kind::Passwords => passwords::some(writer),
         Kind::Mixed | Kind::Directory | Kind::Unknown | Kind::Cuts => {
             let kinds = [
                 Kind::Requests,
@@ -244,6 +250,7 @@ fn step(writer: &mut Writer, kind: Kind) {
                 Kind::Names,
                 Kind::Rooms,
                 Kind::Broken,
+                Kind::Passwords,
             ];
             let other = writer.random.pick(&kinds);
             step(writer, other);

@@ -1,6 +1,7 @@
 //! A tour through every call, refusal, status, error byte and bad word: the
 //! script of `examples/all.script`, in parts with names.
 
+mod passwords;
 mod places;
 
 use crate::generate::rows::ROWS;
@@ -70,13 +71,16 @@ pub fn parts() -> Vec<Part> {
     tour.places_of_255();
     tour.places_behind_esc();
     tour.cut_everywhere();
+    tour.passwords_entered();
+    tour.wrong_passwords();
+    tour.passwords_changed();
     tour.parts
 }
 
 const PASSWORD: [u8; 32] = *b"window hub\0\0\0\0\0\0\0\0\0\0\0\0\0\0\0\0\0\0\0\0\0\0";
-/// Differs behind the first zero byte only.
-const OTHER_TAIL: [u8; 32] = *b"window hub\0\0\0\0\0\0\0\0\0\0\0\0\0\0\0\0\0\0\0\0\0!";
-/// END, ESC and the bytes behind ESC are in it.
+/// Differs in the last byte before the zero.
+const OTHER: [u8; 32] = *b"window hut\0\0\0\0\0\0\0\0\0\0\0\0\0\0\0\0\0\0\0\0\0\0";
+/// END, ESC and the bytes behind ESC, with stale bytes behind a zero.
 const NEW_PASSWORD: [u8; 32] = [
     0xC0, 0xDB, 0xDC, 0xDD, 0, 1, 2, 3, 4, 5, 6, 7, 8, 9, 10, 11, 12, 13, 14, 15, 16, 17, 18, 19,
     20, 21, 22, 23, 24, 25, 26, 255,
@@ -481,11 +485,11 @@ impl Tour {
     fn passwords(&mut self) {
         self.part("password enter 0 and 1, change 0 and 1; logins are per line");
         self.enter(0, &[7; 32]);
-        self.enter(0, &OTHER_TAIL);
+        self.enter(0, &OTHER);
         self.send(0, PASSWORD_CHANGE, &[PASSWORD, NEW_PASSWORD].concat());
         self.enter(0, &PASSWORD);
-        self.enter(0, &OTHER_TAIL);
-        self.send(0, PASSWORD_CHANGE, &[OTHER_TAIL, NEW_PASSWORD].concat());
+        self.enter(0, &OTHER);
+        self.send(0, PASSWORD_CHANGE, &[OTHER, NEW_PASSWORD].concat());
         self.send(0, PASSWORD_CHANGE, &[PASSWORD, PASSWORD].concat());
         self.send(0, PASSWORD_CHANGE, &[PASSWORD, NEW_PASSWORD].concat());
         self.enter(2, &PASSWORD);
@@ -731,9 +735,9 @@ impl Tour {
         self.rooms_of(0, 0x0008, &[], 8);
         self.rooms_of(0, 0x0005, &[], 8);
         self.rooms_for(0, ROWS[10].wire, 8);
-        self.rooms_of(0, PASSWORD_ENTER, &OTHER_TAIL, 8);
+        self.rooms_of(0, PASSWORD_ENTER, &OTHER, 8);
         self.rooms_of(0, PASSWORD_ENTER, &PASSWORD, 8);
-        self.rooms_of(0, PASSWORD_CHANGE, &[OTHER_TAIL, PASSWORD].concat(), 8);
+        self.rooms_of(0, PASSWORD_CHANGE, &[OTHER, PASSWORD].concat(), 8);
         self.rooms_of(0, PASSWORD_CHANGE, &[PASSWORD, PASSWORD].concat(), 8);
         // Nodes C0 and DB are escaped; DB is above 199. The check byte comes to
         // C0 for node C1 with status 1, and for node C0 with a variation.
@@ -799,7 +803,7 @@ impl Tour {
             self.feed_lent(1, 0, &[END, END], TABLE);
             self.feed_lent(1, 7, &[END, END], TABLE);
             self.show();
-            self.enter(0, &OTHER_TAIL);
+            self.enter(0, &OTHER);
             self.feed_lent(1, 8, &[END, END], TABLE);
         }
         for bytes in [&[][..], &[END], &[END; 3], &[END, 0, 3, 0]] {
@@ -846,7 +850,7 @@ mod tests {
 
     #[test]
     fn the_script_is_short() {
-        assert!(script().lines().count() < 800);
+        assert!(script().lines().count() < 900);
         assert!(script().lines().all(|line| line.len() < 1200));
     }
 }

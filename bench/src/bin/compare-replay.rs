@@ -24,7 +24,7 @@ const USAGE: Usage = Usage {
 Runs a replay program on N generated scripts (2400 if not given), or on the
 script KIND INDEX alone, and compares its answers with the second hub's.
 KIND is one of directory, unknown, requests, sessions, wire, calls, bad, names,
-rooms, mixed, cuts, broken.
+rooms, mixed, cuts, broken, passwords.
 ",
     )
 };

@@ -8,6 +8,7 @@ use std::ops::Range;
 
 use super::commands::*;
 use super::nodes::{self, KIND, NAME, NODES, ORDER, PLACEMENT, VARIATION};
+use super::password;
 use super::sessions::Session;
 use super::{Hub, PASSWORD};
 use crate::directory;
@@ -38,6 +39,7 @@ pub enum Change {
     Nothing,
     /// This line is logged in.
     Login(u8),
+    /// The password to store.
     Password([u8; PASSWORD]),
     /// A field of a node's record.
     Field(u8, Range<usize>, Vec<u8>),
@@ -148,7 +150,7 @@ impl Hub {
     }
 
     fn enter(&self, line: u8, data: &[u8]) -> Served {
-        if data == self.password {
+        if password::same(data, &self.password) {
             Served::confirm(PASSWORD_ENTER, &[OK], "enter 0").changing(Change::Login(line))
         } else if self.logins[usize::from(line)] {
             Served::confirm(PASSWORD_ENTER, &[REJECTED], "enter 1: stays logged in")
@@ -159,17 +161,16 @@ impl Hub {
 
     fn change(&self, data: &[u8]) -> Served {
         let (old, new) = data.split_at(PASSWORD);
-        if old != self.password {
+        if !password::same(old, &self.password) {
             return Served::confirm(PASSWORD_CHANGE, &[REJECTED], "change 1");
         }
-        let remark = if old == new {
+        let remark = if password::same(old, new) {
             "change 0: to the same"
         } else {
             "change 0: to another"
         };
-        let mut password = [0; PASSWORD];
-        password.copy_from_slice(new);
-        Served::confirm(PASSWORD_CHANGE, &[OK], remark).changing(Change::Password(password))
+        let change = Change::Password(password::stored(new));
+        Served::confirm(PASSWORD_CHANGE, &[OK], remark).changing(change)
     }
 
     fn remove(&self, table: &[u8], bits: &[u8]) -> Served {

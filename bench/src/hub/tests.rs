@@ -6,9 +6,10 @@ use crate::paper;
 use crate::random::Random;
 use crate::sender::wire;
 
-const PASSWORD: [u8; 32] = *b"hub\0\0\0\0\0\0\0\0\0\0\0\0\0\0\0\0\0\0\0\0\0\0\0\0\0\0\0\0\x01";
+const PASSWORD: [u8; 32] = *b"hub\0\0\0\0\0\0\0\0\0\0\0\0\0\0\0\0\0\0\0\0\0\0\0\0\0\0\0\0\0";
 const FILL: u8 = 0xA5;
 
+mod passwords;
 mod rooms;
 
 /// What a feed tells: bytes used, the outcome and the reply.
@@ -258,31 +259,6 @@ fn errors_are_judged_in_order() {
     assert_eq!(whole.ask(0, 0x0201, &[1]), error(2));
     assert_eq!(whole.ask(0, 0x0201, &[1, 1]), error(1));
     assert_eq!(whole.ask(0, 0x0001, &[]), error(1));
-}
-
-#[test]
-fn passwords() {
-    let mut whole = Whole::ready();
-    let mut other = PASSWORD;
-    other[31] = 2;
-    assert_eq!(whole.ask(2, 0x3000, &other), wire(0x3001, &[1]));
-    assert_eq!(whole.ask(0, 0x3000, &other), wire(0x3001, &[1]));
-    assert_eq!(whole.hub.logins, [true, true, false, false]);
-    assert_eq!(
-        whole.ask(0, 0x3002, &[other, other].concat()),
-        wire(0x3003, &[1])
-    );
-    assert_eq!(whole.hub.password, PASSWORD);
-    assert_eq!(
-        whole.ask(0, 0x3002, &[PASSWORD, PASSWORD].concat()),
-        wire(0x3003, &[0])
-    );
-    assert_eq!(
-        whole.ask(0, 0x3002, &[PASSWORD, other].concat()),
-        wire(0x3003, &[0])
-    );
-    assert_eq!(whole.hub.password, other);
-    assert_eq!(whole.hub.logins, [true, true, false, false]);
 }
 
 #[test]

@@ -257,7 +257,7 @@ fn is_room(refusals: &Refusals) -> bool {
 }
 
 /// The words of the first remark before its colon.
-fn kind(remarks: &[&'static str]) -> &'static str {
+pub fn kind(remarks: &[&'static str]) -> &'static str {
     let words = remarks.first().and_then(|remark| remark.split(':').next());
     words.expect("an outcome has a remark")
 }

@@ -1,7 +1,7 @@
 //! Host calls: the usual ones, and ones with any numbers and lengths.
 
 use super::writer::Writer;
-use super::{bad, requests};
+use super::{bad, passwords, requests};
 use crate::hub::commands::PASSWORD_ENTER;
 use crate::hub::nodes::{self, NODES, TABLE};
 use crate::hub::{self, LINES, PASSWORD};
@@ -20,7 +20,7 @@ pub fn set_up(writer: &mut Writer) {
     }
     for line in 0..LINES as u8 {
         if writer.random.once_in(2) {
-            let password = writer.replay.hub.password;
+            let password = passwords::right(writer);
             writer.send_one(line, sender::wire(PASSWORD_ENTER, &password));
         }
     }
@@ -44,19 +44,8 @@ pub fn end(writer: &mut Writer) {
     }
 }
 
-/// A password that often has zeros in it.
-pub fn password(random: &mut Random) -> Vec<u8> {
-    let zero_from = random.pick(&[0, 1, 10, PASSWORD - 1, PASSWORD]);
-    let mut password: Vec<u8> = (0..PASSWORD).map(|_| random.byte()).collect();
-    password[zero_from..].fill(0);
-    if random.once_in(2) {
-        password[PASSWORD - 1] = random.byte();
-    }
-    password
-}
-
 fn start(writer: &mut Writer) {
-    let password = password(&mut writer.random);
+    let password = passwords::any(&mut writer.random);
     writer.call(Call::Start {
         password,
         table: TABLE,
@@ -214,10 +203,14 @@ fn any_node(writer: &mut Writer) -> u8 {
     writer.random.pick(&[any, used, 0, 199, 200, 255])
 }
 
+/// A password that mostly has more or fewer bytes than 32.
 fn any_password(random: &mut Random) -> Vec<u8> {
     let any = random.below(80);
     let length = random.pick(&[0, 1, PASSWORD - 1, PASSWORD + 1, any, PASSWORD, PASSWORD]);
-    (0..length).map(|_| random.byte()).collect()
+    let more = random.byte();
+    let mut password = passwords::any(random);
+    password.resize(length, random.pick(&[0, more]));
+    password
 }
 
 fn any_bytes(random: &mut Random) -> Vec<u8> {

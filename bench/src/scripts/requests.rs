@@ -1,13 +1,12 @@
 //! Frames to send: requests that fit the model's state, and others.
 
-use super::host;
+use super::passwords;
 use super::unknown_number;
 use super::writer::Writer;
 use crate::directory::ENTRIES;
 use crate::generate::{self, frames};
 use crate::hub::commands::{self, *};
 use crate::hub::nodes::{self, NODES};
-use crate::hub::PASSWORD;
 use crate::outcome::DATA_MOST;
 use crate::random::Random;
 use crate::reach;
@@ -38,7 +37,7 @@ const INDICES: usize = commands::INDICES as usize;
 pub fn request(writer: &mut Writer, line: u8, taste: Taste) -> Request {
     let login = writer.replay.hub.logins[usize::from(line)];
     if !login && !writer.random.once_in(3) {
-        return enter(writer);
+        return passwords::enter(writer);
     }
     if taste == Taste::Sessions && !writer.random.once_in(4) {
         return mode_send(writer);
@@ -47,8 +46,8 @@ pub fn request(writer: &mut Writer, line: u8, taste: Taste) -> Request {
         return escaped(writer);
     }
     match writer.random.below(26) {
-        0 | 1 => enter(writer),
-        2 | 3 => change(writer),
+        0 | 1 => passwords::enter(writer),
+        2 | 3 => passwords::change(writer),
         4..7 => (GET_NODE, vec![any_node(writer)]),
         7..10 => variation(writer),
         10..12 => name(writer),
@@ -84,33 +83,6 @@ pub fn setting(writer: &mut Writer) -> Request {
         1 => order(writer),
         _ => name(writer),
     }
-}
-
-/// The password, or one that differs in one byte, mostly behind a zero.
-fn enter(writer: &mut Writer) -> Request {
-    let mut password = writer.replay.hub.password.to_vec();
-    if writer.random.once_in(4) {
-        spoil(&mut password, &mut writer.random);
-    }
-    (PASSWORD_ENTER, password)
-}
-
-fn spoil(password: &mut [u8], random: &mut Random) {
-    let place = random.below(PASSWORD);
-    let place = random.pick(&[place, 0, PASSWORD - 1]);
-    password[place] ^= random.between(1, 255) as u8;
-}
-
-fn change(writer: &mut Writer) -> Request {
-    let mut old = writer.replay.hub.password.to_vec();
-    let new = match writer.random.below(4) {
-        0 => old.clone(),
-        _ => host::password(&mut writer.random),
-    };
-    if writer.random.once_in(3) {
-        spoil(&mut old, &mut writer.random);
-    }
-    (PASSWORD_CHANGE, [old, new].concat())
 }
 
 /// A node that is mostly in use.

@@ -84,9 +84,12 @@ fn errors() {
 fn passwords() {
     let whole = prepared();
     let mut other = PASSWORD;
-    other[31] = END;
+    other[2] = END;
+    let mut stale = PASSWORD;
+    stale[31] = END;
     try_request(&whole, 2, (0x3000, &PASSWORD), (0x3001, &[0]));
     try_request(&whole, 0, (0x3000, &PASSWORD), (0x3001, &[0]));
+    try_request(&whole, 2, (0x3000, &stale), (0x3001, &[0]));
     try_request(&whole, 2, (0x3000, &other), (0x3001, &[1]));
     try_request(&whole, 0, (0x3000, &other), (0x3001, &[1]));
     let change = |old: [u8; 32], new| [old, new].concat();
@@ -102,6 +105,7 @@ fn passwords() {
         (0x3002, &change(PASSWORD, PASSWORD)),
         (0x3003, &[0]),
     );
+    try_request(&whole, 0, (0x3002, &change(stale, stale)), (0x3003, &[0]));
     try_request(
         &whole,
         0,
