@@ -8,24 +8,20 @@ use native.Mathlib.Omega.{arith}
 use lib.ListN.{length, take, drop, getD}
 use lib.Seq.{length-take-le, split-at}
 use lib.Dec.{leb}
-use borrow.Author.Tests.{leb-true, leb-false, le-ltb, lt-leb}
+use borrow.Author.Tests.{leb-true, leb-false, lt-leb}
 use Rattle.line.specs.declared.Places.{Places}
 use Rattle.line.specs.WireLaws.{escape-append}
 use Rattle.line.specs.Reader as line
 use Rattle.line.specs.Reader.{limit, skipping, emptied, State}
 use Rattle.line.specs.ReaderLaws.{inside-append, inside-escape, inside-escaped, inside-skipping}
+use Rattle.line.specs.ReachableLaws.{decoded-full}
 use Rattle.frame.specs.Frame.{escape, Outcome, refused, tooLong, judge}
 use Rattle.frame.specs.Reader.{END, also, inside, outcomes, verdict, step}
 use Rattle.frame.specs.ReaderLaws.{outcomes-closed}
 use Rattle.frame.specs.EscapeLaws.{escape-no-end}
 use Rattle.frame.specs.PlaceLaws.{tooLong-line}
 
--- a byte behind 255 others settles the piece
-decoded-full : (k : List ℕ) (b : ℕ) → length k ≡ limit → line.decoded k b ≡ skipping (line.tooLong k)
-unfolding line.decoded
-decoded-full k b x = rw (le-ltb (length k) limit (omega arith))
-
--- so more than 255 bytes are settled at the 256th,
+-- more than 255 bytes are settled at the 256th,
 long-settled : (h : List ℕ) → limit < length h → inside emptied (escape h) ≡ skipping (line.tooLong (take limit h))
 long-settled h x =
     let k = take limit h in

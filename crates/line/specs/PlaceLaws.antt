@@ -1,12 +1,12 @@
 -- Laws of places: decoded bytes on the wire.
-use Prim.Native.Nat.{ℕ, suc, _+_, _*_, _≤_, _<_}
+use Prim.Native.Nat.{ℕ, suc, _+_, _-_, _*_, _≤_, _<_}
 use mathlib.Core.Path.{_≡_, refl, sym, ap, _∙_}
 use mathlib.Core.List.{List, [], _∷_, _++_}
 use mathlib.Core.Bool.{Bool, true, false, cond}
-use native.Mathlib.Nat.{add-zero}
+use native.Mathlib.Nat.{add-zero, sub-zero}
 use native.Mathlib.Omega.{arith}
 use lib.ListN.{length, take, drop, getD, length-append, take-append-drop}
-use lib.Seq.{take-length, split-at, take-append-seam, getD-append-add}
+use lib.Seq.{take-length, split-at, take-append-seam, getD-append-add, length-take-le}
 use lib.Dec.{eqb}
 use borrow.Author.Tests.{eqb-true}
 use Rattle.line.specs.Wire.{END, ESC, ESC-END, ESC-ESC, escape}
@@ -47,6 +47,12 @@ wireLength-most h = escape-short h
 pub wireLength-more : (h : List ℕ) (i : ℕ) → i < length h → wireLength (take (i + 1) h) ≡ wireLength (take i h) + wireLength (getD h i 0 ∷ [])
 unfolding wireLength
 wireLength-more h i x = ap length (escape-more h i x) ∙ length-append (escape (take i h)) (escape (getD h i 0 ∷ []))
+
+-- so many bytes from the front and what escaping adds to them, as `escapes` is promised of that part: where they end on the wire
+pub wireLength-front : (bs : List ℕ) (n e : ℕ) → n ≤ length bs → length (take (n - 0) (drop 0 bs)) + e ≡ wireLength (take (n - 0) (drop 0 bs)) → n + e ≡ wireLength (take n bs)
+wireLength-front bs n e h x =
+    let z : n - 0 ≡ n = sub-zero n in
+    ap (λ (k : ℕ). k + e) (sym (length-take-le n bs h) ∙ ap (λ (k : ℕ). length (take k bs)) (sym z)) ∙ x ∙ ap (λ (k : ℕ). wireLength (take k bs)) z
 
 -- behind the last byte stands the END
 pub byteAt-end : (h : List ℕ) → byteAt h (decodedAt (length h)) ≡ behind h

@@ -151,7 +151,7 @@ unfolding tooLong behind
 tooLong-places h w d x y = rw (x, y)
 
 -- a byte that is decoded behind 255 others
-decoded-full : (h : List ℕ) (b : ℕ) → length h ≡ limit → decoded h b ≡ skipping (tooLong h)
+pub decoded-full : (h : List ℕ) (b : ℕ) → length h ≡ limit → decoded h b ≡ skipping (tooLong h)
 unfolding decoded
 decoded-full h b x = rw (le-ltb (length h) limit (omega arith))
 

@@ -1,11 +1,10 @@
 use Prim.Native.Nat.{ℕ, _+_, _-_, _*_, _≤_}
-use mathlib.Core.Path.{_≡_, sym, ap, _∙_}
+use mathlib.Core.Path.{_≡_}
 use mathlib.Core.List.{List}
-use native.Mathlib.Nat.{sub-zero}
 use native.Mathlib.Omega.{arith}
 use lib.ListN.{length, take, drop}
 use lib.Seq.{length-take-le}
-use Rattle.line.specs.PlaceLaws.{wireLength-most}
+use Rattle.line.specs.PlaceLaws.{wireLength-most, wireLength-front}
 use Rattle.frame.specs.declared.Cause.{Cause}
 use Rattle.frame.specs.declared.Judged.{Judged}
 use Rattle.frame.specs.declared.Judged.the-variants.{Refused}
@@ -15,19 +14,13 @@ use borrow.Author.Needs.{needs}
 use Rattle.frame.proofs.checks.refused.Statement.{statement}
 use Rattle.frame.proofs.checks.refused.Tie as tie
 
--- the wire place of the byte d: its number and that of the ESCs before it
-on-wire : (h : List ℕ) (d e : ℕ) → d ≤ length h → length (take (d - 0) (drop 0 h)) + e ≡ wireLength (take (d - 0) (drop 0 h)) → d + e ≡ wireLength (take d h)
-on-wire h d e l x =
-    let z : d - 0 ≡ d = sub-zero d in
-    ap (λ (k : ℕ). k + e) (sym (length-take-le d h l) ∙ ap (λ (k : ℕ). length (take k h)) (sym z)) ∙ x ∙ ap (λ (k : ℕ). wireLength (take k h)) z
-
 placed-most : (h : List ℕ) (d e : ℕ) → d ≤ length h → length (take (d - 0) (drop 0 h)) + e ≡ wireLength (take (d - 0) (drop 0 h)) → d + e ≤ 2 * d
-placed-most h d e l x = omega (arith, on-wire h d e l x, wireLength-most (take d h), length-take-le d h l)
+placed-most h d e l x = omega (arith, wireLength-front h d e l x, wireLength-most (take d h), length-take-le d h l)
 
 placed : (c : Cause) (h : List ℕ) (d e : ℕ) → d ≤ length h → length (take (d - 0) (drop 0 h)) + e ≡ wireLength (take (d - 0) (drop 0 h))
     → _≡_ {A = Judged} (Refused (record { cause = c; at = placesAt (d + e) d })) (refusedAt c h d)
 unfolding byteAt onWire
-placed c h d e l x = rw (on-wire h d e l x)
+placed c h d e l x = rw (wireLength-front h d e l x)
 
 sub-escapes : tie.Need-sub-escapes
 sub-escapes c = search needs

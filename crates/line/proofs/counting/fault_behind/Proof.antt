@@ -1,27 +1,21 @@
-use Prim.Native.Nat.{ℕ, _+_, _-_, _*_, _≤_}
-use mathlib.Core.Path.{_≡_, sym, ap, _∙_}
+use Prim.Native.Nat.{ℕ, _+_, _*_, _≤_}
+use mathlib.Core.Path.{_≡_, _∙_}
 use mathlib.Core.List.{List}
-use native.Mathlib.Nat.{sub-zero}
 use native.Mathlib.Omega.{arith}
-use lib.ListN.{length, take, drop, length-take}
+use lib.ListN.{length, take, length-take}
 use lib.Seq.{length-take-le}
 use Rattle.line.specs.declared.Fault.the-variants.{WrongEscape, TooLong}
 use Rattle.line.specs.Places.{FaultAt, placesAt, wireLength, behind, behindEsc}
 use Rattle.line.specs.Step.{faultBehind}
-use Rattle.line.specs.PlaceLaws.{wireLength-most}
+use Rattle.line.specs.PlaceLaws.{wireLength-most, wireLength-front}
 use Rattle.line.specs.Reader.{limit, wrongEscape, tooLong}
 use borrow.Author.Needs.{needs}
 use Rattle.line.proofs.counting.fault_behind.Statement.{statement}
 use Rattle.line.proofs.counting.fault_behind.Tie as tie
 
 -- behind the bytes held, the wire place is their number and that of their ESCs
-wired : (bs : List ℕ) (n e : ℕ) → length bs ≡ limit → n ≤ limit → length (take (n - 0) (drop 0 bs)) + e ≡ wireLength (take (n - 0) (drop 0 bs)) → n + e ≡ wireLength (take n bs)
-wired bs n e full h x =
-    let z : n - 0 ≡ n = sub-zero n in
-    ap (λ (k : ℕ). k + e) (sym (length-take-le n bs (omega arith)) ∙ ap (λ (k : ℕ). length (take k bs)) (sym z)) ∙ x ∙ ap (λ (k : ℕ). wireLength (take k bs)) z
-
 held-wire : (c : tie.After-escapes) → c .before .before .before .args .count + c .escapes .result ≡ wireLength (take (c .before .before .before .args .count) (c .before .before .before .args .bytes .now))
-held-wire c = wired _ _ _ (c .before .before .before .pre .0) (c .before .before .before .pre .1) (c .escapes .ensures)
+held-wire c = wireLength-front _ _ _ (omega (arith, c .before .before .before .pre .0, c .before .before .before .pre .1)) (c .escapes .ensures)
 
 held-most : (c : tie.After-escapes) → c .before .before .before .args .count + c .escapes .result ≤ 2 * limit
 held-most c =
