@@ -1,6 +1,8 @@
 // Boundary cases of reading and of passwords, run and held to the file stdout: the line reader on wire bytes, whole and cut in two at every place,
 // and on records that claim too much or skip at places that no bytes could leave; such records, lent to the hub;
 // passwords with old bytes behind them (old_bytes.rt).
+#![tactic(auto)]
+
 mod old_bytes;
 
 use libc::STDOUT_FILENO;
@@ -9,7 +11,7 @@ use rules::FedByValue;
 use text::{COLON, GAP, LINE_END, NOTHING, PACKET};
 
 // Where a text ends, and the record after the bytes read so far.
-#[derive(Drop)]
+#[derive(Clone, Copy)]
 struct Run {
     at: usize,
     reading: Reading,

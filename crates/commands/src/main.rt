@@ -1,5 +1,7 @@
 // Writes the command directory, a line for each entry: number, least and greatest data length.
 // It stops where the output is not taken. The lines are made by a proved function of `entries`.
+#![tactic(auto)]
+
 pub mod entries;
 
 use directory::{Entry, Found};

@@ -1,6 +1,8 @@
 // The command directory: which commands are known, and how many data bytes each may have (document 01, "The command directory").
 // Its entries are specs/Directory.antt; what a call says of a command is the definition's, specs/Lookup.antt.
 // It stands on nothing.
+#![tactic(auto)]
+
 mod entries;
 mod lookup;
 
@@ -8,7 +10,7 @@ pub use entries::COUNT;
 pub use lookup::{entry_at, judge};
 
 // A command's number, and the least and the greatest length of its data.
-#[derive(Drop)]
+#[derive(Clone, Copy)]
 pub struct Entry {
     pub number: u16,
     pub least: u8,
@@ -16,14 +18,14 @@ pub struct Entry {
 }
 
 // An entry, where there is one.
-#[derive(Drop)]
+#[derive(Clone, Copy)]
 pub enum Found {
     Listed(Entry),
     Nothing,
 }
 
 // What is to be said of a command with so many data bytes: error 1, error 2, or none.
-#[derive(Drop)]
+#[derive(Clone, Copy)]
 pub enum Verdict {
     Unknown,
     WrongLength,

@@ -12,7 +12,7 @@ use Rattle.frame.specs.Reader.{END, escape, onward, scan, emptied_reading, inner
 use Rattle.feeds.specs.System.{Answer, refused, told, settled, serve_if, decided, call, error_reply}
 use Rattle.feeds.specs.Marks.{count_of, outcome_of, counted, used_on, marks_from}
 use Rattle.feeds.specs.Sent.{sent}
-use Rattle.feeds.specs.Service.{Lent, Got, Memory, entry_of, Run, stop, next, Feeds, marks_in}
+use Rattle.feeds.specs.Service.{Lent, Got, Memory, entry_of, Promise, record_for, Run, stop, next, Feeds, marks_in}
 use Rattle.feeds.specs.Demand3.{Line, OneDamaged, Harmless, harmless}
 use Rattle.feeds.specs.Example.{serve, refusal, Counting, short_at, one, example_damage}
 
@@ -70,16 +70,48 @@ gots =
 unfoldable left : Memory Counting
 left = record { hub = 8; table = tt; records = used ∷ two ∷ emptied_reading ∷ emptied_reading ∷ [] }
 
+-- The memory between two of the feeds: only the hub and the first record change.
+unfoldable begun : ℕ → Reading → Memory Counting
+begun h r = record { hub = h; table = tt; records = r ∷ two ∷ emptied_reading ∷ emptied_reading ∷ [] }
+
+-- What a feed promises that is lent g in the memory m and gives back o.
+abbrev Keeps : Memory Counting → Lent → Got Counting → Type 0
+Keeps m g o = Promise Counting m.hub m.table (record_for Counting m g) g.line g.bytes g.room o
+
 -- Each keeps its promise.
+first : Keeps (begun 7 junk) (lent 0 512 (END ∷ 0 ∷ 3 ∷ [])) (got 7 two (told 3 none 0) [] 512)
+unfolding junk two used begun lent got entry_of serve refusal call decided settled serve_if scan onward step verdict inner line.step line.decoded line.close line.wrong_escape line.too_long judge packet.too_long packet.too_short packet.wrong_protocol packet.below_length packet.beyond_length packet.wire_length packet.behind packet.byte_at packet.on_wire escape packet.wrong_check xor_all ◌⊕◌
+first = record { hub = refl; table = refl; state = refl; answer = refl; room = refl; kept = told-kept }
+
+second : Keeps (begun 7 two) (lent 0 511 (9 ∷ [])) (got 7 two (refused 9) [] 511)
+unfolding junk two used begun lent got entry_of serve refusal call decided settled serve_if scan onward step verdict inner line.step line.decoded line.close line.wrong_escape line.too_long judge packet.too_long packet.too_short packet.wrong_protocol packet.below_length packet.beyond_length packet.wire_length packet.behind packet.byte_at packet.on_wire escape packet.wrong_check xor_all ◌⊕◌
+second = record { hub = refl; table = refl; state = refl; answer = refl; room = refl; kept = λ n p. refl }
+
+third : Keeps (begun 7 two) (lent 5 512 (9 ∷ [])) (got 7 junk (refused 8) [] 512)
+unfolding junk two used begun lent got entry_of serve refusal call decided settled serve_if scan onward step verdict inner line.step line.decoded line.close line.wrong_escape line.too_long judge packet.too_long packet.too_short packet.wrong_protocol packet.below_length packet.beyond_length packet.wire_length packet.behind packet.byte_at packet.on_wire escape packet.wrong_check xor_all ◌⊕◌
+third = record { hub = refl; table = refl; state = refl; answer = refl; room = refl; kept = λ n p. refl }
+
+fourth : Keeps (begun 7 two) (lent 0 512 []) (got 7 two (told 0 none 0) [] 512)
+unfolding junk two used begun lent got entry_of serve refusal call decided settled serve_if scan onward step verdict inner line.step line.decoded line.close line.wrong_escape line.too_long judge packet.too_long packet.too_short packet.wrong_protocol packet.below_length packet.beyond_length packet.wire_length packet.behind packet.byte_at packet.on_wire escape packet.wrong_check xor_all ◌⊕◌
+fourth = record { hub = refl; table = refl; state = refl; answer = refl; room = refl; kept = told-kept }
+
+fifth : Keeps (begun 7 two) (lent 0 512 (1 ∷ 2 ∷ END ∷ END ∷ [])) (got 7 used (told 3 (some (short_at 4)) 8) error_reply 504)
+unfolding junk two used begun lent got entry_of serve refusal call decided settled serve_if scan onward step verdict inner line.step line.decoded line.close line.wrong_escape line.too_long judge packet.too_long packet.too_short packet.wrong_protocol packet.below_length packet.beyond_length packet.wire_length packet.behind packet.byte_at packet.on_wire escape packet.wrong_check xor_all ◌⊕◌
+fifth = record { hub = refl; table = refl; state = refl; answer = refl; room = refl; kept = told-kept }
+
+sixth : Keeps (begun 7 used) (lent 0 512 (0 ∷ 3 ∷ 0 ∷ 1 ∷ 2 ∷ END ∷ [])) (got 8 used (told 6 (some (frame 1 [])) 1) (7 ∷ []) 511)
+unfolding junk two used begun lent got entry_of serve refusal call decided settled serve_if scan onward step verdict inner line.step line.decoded line.close line.wrong_escape line.too_long judge packet.too_long packet.too_short packet.wrong_protocol packet.below_length packet.beyond_length packet.wire_length packet.behind packet.byte_at packet.on_wire escape packet.wrong_check xor_all ◌⊕◌
+sixth = record { hub = refl; table = refl; state = refl; answer = refl; room = refl; kept = told-kept }
+
 example_run : Run Counting begin lents gots left
-unfolding junk two used begin lent got lents gots left entry_of serve refusal call decided settled serve_if scan onward step verdict inner line.step line.decoded line.close line.wrong_escape line.too_long judge packet.too_long packet.too_short packet.wrong_protocol packet.below_length packet.beyond_length packet.wire_length packet.behind packet.byte_at packet.on_wire escape packet.wrong_check xor_all ◌⊕◌
+unfolding begin begun left lents gots lent got
 example_run =
-    next (record { hub = refl; table = refl; state = refl; answer = refl; room = refl; kept = told-kept })
-    (next (record { hub = refl; table = refl; state = refl; answer = refl; room = refl; kept = λ n p. refl })
-    (next (record { hub = refl; table = refl; state = refl; answer = refl; room = refl; kept = λ n p. refl })
-    (next (record { hub = refl; table = refl; state = refl; answer = refl; room = refl; kept = told-kept })
-    (next (record { hub = refl; table = refl; state = refl; answer = refl; room = refl; kept = told-kept })
-    (next (record { hub = refl; table = refl; state = refl; answer = refl; room = refl; kept = told-kept })
+    next {m = begun 7 junk} {g = lent 0 512 (END ∷ 0 ∷ 3 ∷ [])} {o = got 7 two (told 3 none 0) [] 512} first
+    (next {m = begun 7 two} {g = lent 0 511 (9 ∷ [])} {o = got 7 two (refused 9) [] 511} second
+    (next {m = begun 7 two} {g = lent 5 512 (9 ∷ [])} {o = got 7 junk (refused 8) [] 512} third
+    (next {m = begun 7 two} {g = lent 0 512 []} {o = got 7 two (told 0 none 0) [] 512} fourth
+    (next {m = begun 7 two} {g = lent 0 512 (1 ∷ 2 ∷ END ∷ END ∷ [])} {o = got 7 used (told 3 (some (short_at 4)) 8) error_reply 504} fifth
+    (next {m = begun 7 used} {g = lent 0 512 (0 ∷ 3 ∷ 0 ∷ 1 ∷ 2 ∷ END ∷ [])} {o = got 8 used (told 6 (some (frame 1 [])) 1) (7 ∷ []) 511} sixth
     stop)))))
 
 -- The list of feeds, run.

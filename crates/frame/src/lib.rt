@@ -2,6 +2,8 @@
 // The rules are specs/Frame.antt. Each call answers as they say: specs/Answers.antt (judging, reading), specs/Lent.antt,
 // specs/Writer.antt and specs/View.antt. It stands on what the line reader states, and on the store. What the crates above need of the
 // line reader beside the record's types is passed on here.
+#![tactic(auto)]
+
 mod checks;
 mod lent;
 mod reader;
@@ -27,7 +29,7 @@ pub const HEAD: usize = 4;
 pub const AROUND: usize = 5;
 
 // Why a packet is refused, in the order in which it is judged: a frame below its length byte's claim is shorter than it, one beyond it longer.
-#[derive(Drop)]
+#[derive(Clone, Copy)]
 pub enum Cause {
     WrongEscape,
     TooLong,
@@ -39,14 +41,14 @@ pub enum Cause {
 }
 
 // A packet refusal: why, and where.
-#[derive(Drop)]
+#[derive(Clone, Copy)]
 pub struct PacketRefusal {
     pub cause: Cause,
     pub at: Places,
 }
 
 // A packet that was judged: its data are `len` bytes from `start` on.
-#[derive(Drop)]
+#[derive(Clone, Copy)]
 pub enum Judged {
     Frame {
         command: u16,
@@ -58,14 +60,14 @@ pub enum Judged {
 
 // What wire bytes came to. A frame's data are `len` bytes of the reading's `bytes` from `HEAD` on; its whole packet is the first
 // `len + AROUND` of them.
-#[derive(Drop)]
+#[derive(Clone, Copy)]
 pub enum FrameOutcome {
     Nothing,
     Frame { command: u16, len: usize },
     Refused(PacketRefusal),
 }
 
-#[derive(Drop)]
+#[derive(Clone, Copy)]
 pub struct FrameAnswer {
     pub used: usize,
     pub outcome: FrameOutcome,
@@ -73,7 +75,7 @@ pub struct FrameAnswer {
 }
 
 // An answer apart from its bytes.
-#[derive(Drop)]
+#[derive(Clone, Copy)]
 pub struct FrameAt {
     pub used: usize,
     pub outcome: FrameOutcome,
@@ -81,14 +83,14 @@ pub struct FrameAt {
 }
 
 // An answer apart from its reading, which lies where it was lent.
-#[derive(Drop)]
+#[derive(Clone, Copy)]
 pub struct FrameTold {
     pub used: usize,
     pub outcome: FrameOutcome,
 }
 
 // What writing into room came to: the wire form's length, or the call's refusal.
-#[derive(Drop)]
+#[derive(Clone, Copy)]
 pub enum Written {
     Length(usize),
     ShortRoom,
@@ -96,7 +98,7 @@ pub enum Written {
 }
 
 // What writing at an offset came to: the place behind the wire form, or why nothing was written.
-#[derive(Drop)]
+#[derive(Clone, Copy)]
 pub enum WrittenAt {
     UpTo(usize),
     NoFit,
@@ -104,7 +106,7 @@ pub enum WrittenAt {
 }
 
 // How much room a frame takes: the wire form's length, or the refusal of its data.
-#[derive(Drop)]
+#[derive(Clone, Copy)]
 pub enum Measured {
     Length(usize),
     LongData,

@@ -12,7 +12,7 @@ use line::{DecodedPlace, Places, WirePlace};
 
 // A frame's command number and its data, where they lie, 0 and the places 0 and 0; of a refused packet, 0, the empty part at its start,
 // document 01's number of its refusal, and where it broke. The wire place is that in the bytes' one escaped form.
-#[derive(Drop)]
+#[derive(Clone, Copy)]
 pub struct View<'a> {
     pub command: u16,
     pub data: &'a [u8],

@@ -1,5 +1,7 @@
 // Boundary cases of frames, run and held to the file stdout: frames measured, the frame writer at its limits, each frame that it writes read back;
 // packets through their view, those that are accepted from the wire and through a lent record; where a refused packet broke.
+#![tactic(auto)]
+
 ghost use Rattle.std.specs.Prelude.{◌≡◌};
 ghost use Rattle.frame.specs.Reader.{taken, read};
 ghost use Rattle.frame.specs.Answers.{Answers};
@@ -11,7 +13,7 @@ use line::{Places, Reading};
 use text::{COLON, DATA, GAP, LINE_END, NOTHING, PACKET};
 
 // What a view shows, copied.
-#[derive(Drop)]
+#[derive(Clone, Copy)]
 struct Copied {
     command: u16,
     data: [u8; frame::DATA],

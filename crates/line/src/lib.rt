@@ -1,6 +1,8 @@
 // The line reader: wire bytes to packets, one outcome at a time (document 01, "From wire to packet").
 // The rules are specs/Reader.antt. Each call answers as they say (specs/Answers.antt), on a lent record too (specs/Lent.antt).
 // It stands on nothing.
+#![tactic(auto)]
+
 mod counting;
 mod lent;
 mod reader;
@@ -26,34 +28,34 @@ pub const LIMIT: usize = 255;
 
 // A byte's place, told twice, both from 0 (document 02, CR 2): among the wire bytes since the last END, and among the decoded bytes.
 // Each is a type of its own, so that comparing one with the other does not check. None that bytes leave is above 511.
-#[derive(Drop)]
+#[derive(Clone, Copy)]
 pub struct WirePlace(pub u16);
 
-#[derive(Drop)]
+#[derive(Clone, Copy)]
 pub struct DecodedPlace(pub u16);
 
-#[derive(Drop)]
+#[derive(Clone, Copy)]
 pub struct Places {
     pub wire: WirePlace,
     pub decoded: DecodedPlace,
 }
 
 // What settles a piece before its END.
-#[derive(Drop)]
+#[derive(Clone, Copy)]
 pub enum Fault {
     WrongEscape,
     TooLong,
 }
 
 // The same, with where it is.
-#[derive(Drop)]
+#[derive(Clone, Copy)]
 pub struct FaultAt {
     pub fault: Fault,
     pub at: Places,
 }
 
 // Where a reading stands in its piece: between whole bytes, right after an ESC, or in the rest of a settled piece.
-#[derive(Drop)]
+#[derive(Clone, Copy)]
 pub enum Mode {
     Plain,
     Escaped,
@@ -61,7 +63,7 @@ pub enum Mode {
 }
 
 // Document 01's reading state: the open piece's decoded bytes are the first `count` of `bytes`.
-#[derive(Drop)]
+#[derive(Clone, Copy)]
 pub struct Reading {
     pub bytes: [u8; LIMIT],
     pub count: usize,
@@ -69,21 +71,21 @@ pub struct Reading {
 }
 
 // A reading apart from its bytes.
-#[derive(Drop)]
+#[derive(Clone, Copy)]
 pub struct Cursor {
     pub count: usize,
     pub mode: Mode,
 }
 
 // What the bytes came to. A packet's decoded bytes are the first ones of the reading's `bytes`, as many as it says.
-#[derive(Drop)]
+#[derive(Clone, Copy)]
 pub enum PacketOutcome {
     Nothing,
     Packet(usize),
     Refused(FaultAt),
 }
 
-#[derive(Drop)]
+#[derive(Clone, Copy)]
 pub struct PacketAnswer {
     pub used: usize,
     pub outcome: PacketOutcome,
@@ -91,7 +93,7 @@ pub struct PacketAnswer {
 }
 
 // An answer apart from its bytes.
-#[derive(Drop)]
+#[derive(Clone, Copy)]
 pub struct PacketAt {
     pub used: usize,
     pub outcome: PacketOutcome,
@@ -99,7 +101,7 @@ pub struct PacketAt {
 }
 
 // An answer apart from its reading, which lies where it was lent.
-#[derive(Drop)]
+#[derive(Clone, Copy)]
 pub struct PacketTold {
     pub used: usize,
     pub outcome: PacketOutcome,

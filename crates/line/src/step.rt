@@ -9,7 +9,7 @@ use crate::{
 
 // What one byte asks the reader to do: store a decoded byte, go on in a mode, settle the piece for a fault met here, skip in a settled one,
 // refuse the piece for a fault met by its END, or give an outcome.
-#[derive(Drop)]
+#[derive(Clone, Copy)]
 pub(crate) enum Action {
     Store(u8),
     Keep(Mode),

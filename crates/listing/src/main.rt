@@ -1,10 +1,12 @@
 // Lists a capture: reads standard input to its end, writes a line for each outcome, then the wire bytes since the last END.
 // It stops where the input cannot be read or the output is not taken. The text is made by proved functions of `lister`.
+#![tactic(auto)]
+
 use libc::{STDIN_FILENO, STDOUT_FILENO};
 use line::Reading;
 
 // How the listing stands, and whether it goes on.
-#[derive(Drop)]
+#[derive(Clone, Copy)]
 struct State {
     reading: Reading,
     left: u64,

@@ -1,6 +1,8 @@
 // The node table: 200 records of 72 lent bytes, and what the node commands do to it (document 01, "What the commands do").
 // Each call's answer, and every byte of the table that it leaves, are those of specs/Table.antt.
 // It stands on `memory`.
+#![tactic(auto)]
+
 mod enrolment;
 mod fields;
 mod notification;
@@ -29,14 +31,14 @@ pub const REJECTED: u8 = 1;
 pub const INVALID_NODE: u8 = 2;
 
 // A field of a record: where it stands, and how long it is.
-#[derive(Drop)]
+#[derive(Clone, Copy)]
 pub struct Field {
     pub at: usize,
     pub size: usize,
 }
 
 // What is told of a node: its information, or that there is none.
-#[derive(Drop)]
+#[derive(Clone, Copy)]
 pub struct Informed {
     pub known: bool,
     pub bytes: [u8; INFORMATION],

@@ -1,6 +1,8 @@
 // Passwords (document 02, CR 3): the bytes before the first zero, or all 32. They are compared and stored as specs/Passwords.antt says.
 // Each call looks at all bytes, whatever they hold, so that its time tells little of them; nothing is promised of time.
 // It stands on what `memory` states of bytes compared.
+#![tactic(auto)]
+
 ghost use Rattle.std.specs.Prelude.{◌≡◌, cond};
 ghost use Rattle.passwords.specs.Passwords.{is_same, stored};
 

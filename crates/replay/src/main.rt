@@ -2,6 +2,8 @@
 // It stops where the input cannot be read or the output is not taken. The input is cut at LF here, the lines are counted, and each is played
 // by `transcript`; what they answered is written before more is read. What a whole input comes to is defined in transcript/specs/World.antt:
 // transcript; that the cutting and counting here come to it is tested, not promised.
+#![tactic(auto)]
+
 ghost use Rattle.std.specs.Prelude.{◌+◌, ◌≤◌, ◌<◌, ◌≡◌, false, length};
 ghost use Rattle.script.specs.Script.{longest};
 
@@ -21,7 +23,7 @@ const FULL: usize = 32768;
 const OUT: usize = FULL + 65536;
 
 // The run, the number of the next line, how many bytes of it are held, and whether the replay goes on.
-#[derive(Drop)]
+#[derive(Clone, Copy)]
 struct Progress {
     run: Run,
     number: u64,

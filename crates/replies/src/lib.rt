@@ -1,12 +1,14 @@
 // What the hub says: replies with their fields, and their frames written whole or not at all (document 01, "What the commands do").
 // A reply's messages and their layouts are specs/Messages.antt; what a reply of this crate tells is specs/Replies.antt: says.
 // It stands on the frame layer's writer and on the node table, of which frame 0210 tells.
+#![tactic(auto)]
+
 mod writing;
 
 pub use writing::write;
 
 // A reply by its numbers. What is told of a node stands in the table: AboutNode is frame 0201 and, where the node is in use, 0210.
-#[derive(Drop)]
+#[derive(Clone, Copy)]
 pub enum Reply {
     Nothing,
     Error(u8),

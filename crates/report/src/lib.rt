@@ -2,6 +2,8 @@
 // A line is written whole or not at all, and is the definition's to the byte (specs/Report.antt, specs/State.antt, specs/Entry.antt).
 // It stands on the pieces of a line (`text`), and on `line` and `sessions` for a reading's modes, a byte's places and how many nodes a session may
 // hold.
+#![tactic(auto)]
+
 mod bad;
 mod calls;
 mod entries;

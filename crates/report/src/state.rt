@@ -13,7 +13,7 @@ use line::{Fault, Mode};
 use text::{GAP, LINE_END};
 
 // The word of a reading's mode between two spaces: the first `len` bytes.
-#[derive(Drop)]
+#[derive(Clone, Copy)]
 struct Word {
     bytes: [u8; 9],
     len: usize,

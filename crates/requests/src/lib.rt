@@ -2,6 +2,8 @@
 // reply room", "The command directory", "What the commands do"). `call` and `call_in` promise the definition's call in every part (crate rules,
 // specs/Promises.antt: Feeds). What is answered is decided first, with nothing changed; then it is written, if there is room for it; then hub,
 // table and record are changed. It stands on the reader of frames, the directory, the node table, the sessions, the replies and the hub's rules.
+#![tactic(auto)]
+
 mod decide;
 mod effects;
 mod feed;

@@ -1,6 +1,8 @@
 // The bench's rounds: a call of the hub made again and again, for a program in Rust or C to time. Only numbers and lent bytes cross over: hub
 // and record are kept here from round to round, so that their layout is nobody else's matter.
 // What the rounds promise is what the calls promise, one after another: specs/Rounds.antt. It stands on the calls of `hub`.
+#![tactic(auto)]
+
 ghost use Rattle.std.specs.Prelude.{◌≡◌};
 ghost use Rattle.rounds.specs.Rounds.{fed_length, finished_length, Fed, Sent, Makes};
 

@@ -1,6 +1,8 @@
 // The hub's rules: its state, its answers, and what each request and each call does (document 01; specs/Hub.antt). What the calls promise is
 // specs/Promises.antt, an answer's number specs/Answers.antt. Its code: who is logged in, and the numbers of the refusals.
 // It stands on what the frame layer, the directory, the node table, the sessions and the lists of feeds state.
+#![tactic(auto)]
+
 mod logins;
 mod refusals;
 
@@ -14,7 +16,7 @@ pub const LINES: usize = 4;
 
 // The hub's state: a line is logged in exactly if its number in `logins` is 1; `slots` is the session table. The node table is lent to each
 // call; the reading states are the serial service's.
-#[derive(Drop)]
+#[derive(Clone, Copy)]
 pub struct Hub {
     pub password: [u8; passwords::PASSWORD],
     pub logins: [u8; LINES],
@@ -22,7 +24,7 @@ pub struct Hub {
 }
 
 // Why a call is refused.
-#[derive(Drop)]
+#[derive(Clone, Copy)]
 pub enum CallRefusal {
     WrongTable,
     WrongLine,
@@ -34,19 +36,19 @@ pub enum CallRefusal {
 }
 
 // What start, enrol and close answer.
-#[derive(Drop)]
+#[derive(Clone, Copy)]
 pub enum CallAnswer {
     Done,
     Refused(CallRefusal),
 }
 
-#[derive(Drop)]
+#[derive(Clone, Copy)]
 pub struct Started {
     pub answer: CallAnswer,
     pub hub: Hub,
 }
 
-#[derive(Drop)]
+#[derive(Clone, Copy)]
 pub struct ClosedByValue {
     pub answer: CallAnswer,
     pub hub: Hub,
@@ -54,20 +56,20 @@ pub struct ClosedByValue {
 }
 
 // A finished session's line, and the length of the frame at the room's front.
-#[derive(Drop)]
+#[derive(Clone, Copy)]
 pub enum FinishAnswer {
     Finished { line: u8, len: usize },
     Refused(CallRefusal),
 }
 
-#[derive(Drop)]
+#[derive(Clone, Copy)]
 pub struct Finished {
     pub answer: FinishAnswer,
     pub hub: Hub,
 }
 
 // Bytes used, the outcome, and the length of the reply at the room's front. A frame's data stand in the record's bytes.
-#[derive(Drop)]
+#[derive(Clone, Copy)]
 pub enum FeedAnswer {
     Told {
         used: usize,
@@ -77,7 +79,7 @@ pub enum FeedAnswer {
     Refused(CallRefusal),
 }
 
-#[derive(Drop)]
+#[derive(Clone, Copy)]
 pub struct FedByValue {
     pub answer: FeedAnswer,
     pub hub: Hub,
@@ -85,7 +87,7 @@ pub struct FedByValue {
 }
 
 // The same apart from the record's bytes, which lie where they were lent.
-#[derive(Drop)]
+#[derive(Clone, Copy)]
 pub struct FedAt {
     pub answer: FeedAnswer,
     pub hub: Hub,
@@ -93,13 +95,13 @@ pub struct FedAt {
 }
 
 // What close and feed on a lent record give back beside it.
-#[derive(Drop)]
+#[derive(Clone, Copy)]
 pub struct Closed {
     pub answer: CallAnswer,
     pub hub: Hub,
 }
 
-#[derive(Drop)]
+#[derive(Clone, Copy)]
 pub struct Fed {
     pub answer: FeedAnswer,
     pub hub: Hub,

@@ -1,6 +1,8 @@
 // The script of `replay`: what a line of text is, its call and the bytes of its word.
 // Every answer is the definition's (specs/Script.antt, specs/Answers.antt); of a line that is not exactly right, the first word that cannot be taken is told.
 // It stands on bytes compared (`memory`), on the characters of `text`, and on the size of the node table.
+#![tactic(auto)]
+
 mod hex;
 mod numbers;
 mod parser;
@@ -8,7 +10,7 @@ mod parser;
 pub use parser::{DATA_MOST, LONGEST, ROOM_MOST, TABLE_MOST, parse};
 
 // What a line is: a call, a remark, bad from a word on, or too long. The bytes of a call are the first `len` of those that were lent for them.
-#[derive(Drop)]
+#[derive(Clone, Copy)]
 pub enum Call {
     Start {
         len: usize,
@@ -42,14 +44,14 @@ pub enum Call {
 }
 
 // A number, where there is one.
-#[derive(Drop)]
+#[derive(Clone, Copy)]
 pub enum Number {
     Value(usize),
     Nothing,
 }
 
 // A word that is as it must be: its number, or how long it is, and where the next word starts.
-#[derive(Drop)]
+#[derive(Clone, Copy)]
 pub enum Taken {
     Word { value: usize, next: usize },
     Nothing,

@@ -1,6 +1,8 @@
 // The open sessions: which line holds which motors (document 01, mode send and host calls).
 // Each call's answer, and every byte of the session table that it leaves, are those of specs/Sessions.antt.
 // It stands on `nodes` (which nodes are in use, which are removed) and `memory`.
+#![tactic(auto)]
+
 mod closing;
 mod finishing;
 mod opening;
@@ -53,7 +55,7 @@ pub const ILLEGAL_PARAMETER: u8 = 5;
 
 // What a slot says: a session's line, its number and a bit for each of its nodes, least significant first.
 // The slot is in use exactly if `used` is 1; what another holds counts for nothing.
-#[derive(Drop)]
+#[derive(Clone, Copy)]
 pub struct Slot {
     pub used: u8,
     pub line: u8,
@@ -62,7 +64,7 @@ pub struct Slot {
 }
 
 // What a mode send asks for: the first `count` of its indices name its nodes.
-#[derive(Drop)]
+#[derive(Clone, Copy)]
 pub struct ModeSend {
     pub session: u16,
     pub originator: u8,
@@ -73,7 +75,7 @@ pub struct ModeSend {
 }
 
 // Whose a session is: its line, or that its number is not open.
-#[derive(Drop)]
+#[derive(Clone, Copy)]
 pub enum Owner {
     Line(u8),
     NotOpen,

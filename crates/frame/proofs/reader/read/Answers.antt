@@ -1,0 +1,5 @@
+use borrow.Author.Rules.{rules}
+use Rattle.frame.proofs.reader.read.Goals as goal
+
+pub returns : goal.returns
+returns c = rw c.answer_of.ensures c.read_in-told.ensures

@@ -1,0 +1,5 @@
+use borrow.Author.Rules.{rules}
+use Rattle.frame.proofs.reader.refusal_of.Goals as goal
+
+pub returns : goal.returns
+returns c = rw c.cause_of-cause.ensures

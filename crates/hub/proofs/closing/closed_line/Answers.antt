@@ -1,0 +1,5 @@
+use borrow.Author.Rules.{rules}
+use Rattle.hub.proofs.closing.closed_line.Goals as goal
+
+pub returns : goal.returns
+returns c = rw c.close_line.ensures

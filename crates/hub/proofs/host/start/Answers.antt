@@ -1,0 +1,21 @@
+use lib.ListN.{replicate}
+use mathlib.Core.Path.{ap, ◌∙◌}
+use borrow.Author.Tests.{eq-eqb, ne_eqb}
+use Rattle.memory.specs.WroteLaws.{sets-whole}
+use Rattle.passwords.specs.Passwords.{stored}
+use Rattle.rules.specs.Hub.{password_size}
+use borrow.Author.Rules.{rules}
+use Rattle.hub.proofs.host.start.Goals as goal
+
+pub returns-then-table-ne-TABLE : goal.returns-then-table-ne-TABLE
+returns-then-table-ne-TABLE c = simp (ne_eqb _ _ c.if-table-ne-TABLE.true)
+
+pub returns-then-password-ne-PASSWORD : goal.returns-then-password-ne-PASSWORD
+returns-then-password-ne-PASSWORD c = simp (eq-eqb _ _ c.if-table-ne-TABLE.false, ne_eqb _ _ c.if-password-ne-PASSWORD.true)
+
+pub returns : goal.returns
+returns c =
+    let p = c.args.password.now in
+    let whole = c.copy.ensures ∙ sets-whole (replicate password_size 0) p c.if-password-ne-PASSWORD.false in
+    let kept = c.stored-kept.ensures ∙ ap stored whole in
+    simp (eq-eqb _ _ c.if-table-ne-TABLE.false, eq-eqb _ _ c.if-password-ne-PASSWORD.false, c.empty.ensures, c.fresh-next.ensures, kept)

@@ -1,6 +1,0 @@
-pub mod Part
-pub mod Back
-pub mod OnRecord
-pub mod Whole
-pub mod Lend
-pub mod Free

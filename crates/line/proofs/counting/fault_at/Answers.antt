@@ -1,0 +1,5 @@
+use borrow.Author.Rules.{rules}
+use Rattle.line.proofs.counting.fault_at.Goals as goal
+
+pub returns : goal.returns
+returns c = rw c.places_at-at.ensures

@@ -1,0 +1,9 @@
+use mathlib.Core.Path.{refl}
+use borrow.Author.Rules.{rules}
+use Rattle.line.proofs.counting.most_wire.Goals as goal
+
+pub returns-in-WrongEscape : goal.returns-in-WrongEscape
+returns-in-WrongEscape c = rw c.in-WrongEscape.is refl
+
+pub returns-in-TooLong : goal.returns-in-TooLong
+returns-in-TooLong c = rw c.in-TooLong.is refl

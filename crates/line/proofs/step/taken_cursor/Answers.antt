@@ -1,0 +1,5 @@
+use borrow.Author.Rules.{rules}
+use Rattle.line.proofs.step.taken_cursor.Goals as goal
+
+pub returns : goal.returns
+returns c = rw c.cursor_of.ensures at c.taken_at.ensures

@@ -1,0 +1,12 @@
+use Prim.Native.Nat.{◌-◌, ◌*◌, ◌/◌, ◌%◌}
+use Rattle.nodes.specs.Table.{record_size, name_field, enrolled_record}
+use Rattle.memory.specs.WroteLaws.{sets_append}
+use lib.ListN.{replicate}
+use mathlib.Core.List.{[], ◌∷◌}
+use mathlib.Core.Path.{◌∙◌}
+use borrow.Author.Rules.{rules}
+use Rattle.nodes.proofs.enrolment.enrol.Goals as goal
+
+pub returns : goal.returns
+unfolding enrolled_record
+returns c = c.fill.ensures ∙ rw c.copy.ensures (sets_append (1 ∷ c.args.kind / 256 ∷ c.args.kind % 256 ∷ []) (replicate (record_size - name_field.at) 0) c.args.table.now (c.args.node * record_size))

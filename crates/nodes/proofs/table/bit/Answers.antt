@@ -1,0 +1,7 @@
+use Rattle.nodes.specs.Table.{bit}
+use borrow.Author.Rules.{rules}
+use Rattle.nodes.proofs.table.bit.Goals as goal
+
+pub returns : goal.returns
+unfolding bit
+returns c = rw c.byte-byte.ensures

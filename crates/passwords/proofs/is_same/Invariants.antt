@@ -1,0 +1,16 @@
+use Prim.Native.Nat.{◌-◌, ◌≤◌}
+use mathlib.Core.Path.{◌≡◌, refl, sym, ◌∙◌}
+use mathlib.Core.Bool.{true, cond, ◌&&◌}
+use native.Mathlib.Omega.{arith}
+use lib.ListN.{length, drop}
+use borrow.Author.Rules.{rules}
+use Rattle.passwords.specs.Passwords.{password_size, is_same}
+use Rattle.passwords.specs.PasswordLaws.{is_same_more, is_same_end}
+use Rattle.passwords.proofs.is_same.Given as goal
+
+-- The bytes before i are compared; where no zero was among them, the rest decides too.
+abbrev pub invariant-loop-i : goal.invariant-loop-i
+invariant-loop-i l = (l.i ≤ password_size) × (is_same l.a l.b ≡ l.same && cond l.inside (is_same (drop l.i l.a) (drop l.i l.b)) true)
+
+abbrev pub decreases-loop-i : goal.decreases-loop-i
+decreases-loop-i l = password_size - l.i

@@ -1,0 +1,17 @@
+use Prim.Native.Nat.{◌-◌, ◌≤◌}
+use mathlib.Core.Path.{◌≡◌, refl, sym, ◌∙◌}
+use mathlib.Core.List.{◌++◌}
+use mathlib.Core.Bool.{cond}
+use native.Mathlib.Omega.{arith}
+use lib.ListN.{length, take, drop, replicate, length-set}
+use borrow.Author.Rules.{rules}
+use Rattle.passwords.specs.Passwords.{password_size, stored}
+use Rattle.passwords.specs.PasswordLaws.{stored_more, stored_end}
+use Rattle.passwords.proofs.stored.Given as goal
+
+-- The first i bytes are as they are stored; behind a zero there are zeros only.
+abbrev pub invariant-loop-i : goal.invariant-loop-i
+invariant-loop-i l = (l.i ≤ password_size) × (length l.kept ≡ password_size) × (stored l.bytes ≡ take l.i l.kept ++ cond l.inside (stored (drop l.i l.bytes)) (replicate (length (drop l.i l.bytes)) 0))
+
+abbrev pub decreases-loop-i : goal.decreases-loop-i
+decreases-loop-i l = password_size - l.i

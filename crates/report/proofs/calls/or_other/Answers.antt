@@ -1,0 +1,6 @@
+use mathlib.Core.Path.{refl}
+use borrow.Author.Rules.{rules}
+use Rattle.report.proofs.calls.or_other.Goals as goal
+
+pub returns : goal.returns
+returns c = rw c.if-found.false refl

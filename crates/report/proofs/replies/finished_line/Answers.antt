@@ -1,0 +1,8 @@
+use borrow.Author.Rules.{rules}
+use Rattle.text.specs.Text.{ascii}
+use Rattle.report.specs.Report.{finished_line}
+use Rattle.report.proofs.replies.finished_line.Goals as goal
+
+pub returns : goal.returns
+unfolding finished_line ascii
+returns c = c.reply_line.ensures

@@ -1,0 +1,6 @@
+use Rattle.text.specs.BuiltLaws.{built_part}
+use borrow.Author.Rules.{rules}
+use Rattle.report.proofs.slots.slot_line.Goals as goal
+
+pub returns : goal.returns
+returns c = rw (built_part c.slot_text-end.ensures) at c.append.ensures

@@ -1,0 +1,14 @@
+use mathlib.Core.Path.{refl}
+use native.Mathlib.Omega.{arith}
+use Rattle.text.specs.Text.{ascii}
+use Rattle.report.specs.State.{skip_word}
+use borrow.Author.Rules.{rules}
+use Rattle.report.proofs.state.skip_word.Goals as goal
+
+pub returns-in-WrongEscape : goal.returns-in-WrongEscape
+unfolding skip_word ascii
+returns-in-WrongEscape c = rw c.in-WrongEscape.is (record { within = omega arith; text = refl })
+
+pub returns-in-TooLong : goal.returns-in-TooLong
+unfolding skip_word ascii
+returns-in-TooLong c = rw c.in-TooLong.is (record { within = omega arith; text = refl })

@@ -1,0 +1,5 @@
+use borrow.Author.Rules.{rules}
+use Rattle.rules.proofs.logins.is_logged_in.Goals as goal
+
+pub returns : goal.returns
+returns c = rw c.byte.ensures

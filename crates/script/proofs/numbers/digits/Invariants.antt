@@ -1,0 +1,19 @@
+use Prim.Native.Nat.{◌+◌, ◌*◌, ◌-◌, ◌^◌, ◌≤◌, ◌<◌}
+use mathlib.Core.Path.{◌≡◌, refl, sym, ◌∙◌}
+use mathlib.Core.Bool.{true}
+use native.Mathlib.Numerals.{add-one}
+use native.Mathlib.Nat.{pow-suc, pow-le-pow_right}
+use native.Mathlib.Omega.{arith}
+use lib.ListN.{length, get_or, drop}
+use borrow.Author.Tests.{not-true, not-false}
+use borrow.Author.Rules.{rules}
+use Rattle.script.specs.Script.{digits_most, between, digits_from}
+use Rattle.script.specs.ByteLaws.{digits_on, digits-not, digits_end, between_is}
+use Rattle.script.proofs.numbers.digits.Given as goal
+
+-- The value is what the digits so far make: i digits make less than 10 ^ i.
+abbrev pub invariant-loop-i : goal.invariant-loop-i
+invariant-loop-i l = (l.i ≤ length l.text) × (l.value < 10 ^ l.i) × (digits_from 0 l.text ≡ digits_from l.value (drop l.i l.text))
+
+abbrev pub decreases-loop-i : goal.decreases-loop-i
+decreases-loop-i l = length l.text - l.i

@@ -1,0 +1,6 @@
+use Rattle.demands.specs.Steps.{closes}
+use borrow.Author.Rules.{rules}
+use Rattle.service.proofs.calls.close.Goals as goal
+
+pub returns : goal.returns
+returns c = rw c.with_record-back.ensures (closes (rw c.record_of.ensures at c.close_by_value-made.ensures))

@@ -1,0 +1,6 @@
+use Rattle.demands.specs.Steps.{finishes}
+use borrow.Author.Rules.{rules}
+use Rattle.service.proofs.calls.finish.Goals as goal
+
+pub returns : goal.returns
+returns c = finishes c.finish-made.ensures

@@ -1,0 +1,6 @@
+use Rattle.demands.specs.Steps.{starts}
+use borrow.Author.Rules.{rules}
+use Rattle.service.proofs.calls.start.Goals as goal
+
+pub returns : goal.returns
+returns c = starts c.start-made.result.answer c.start-made.ensures

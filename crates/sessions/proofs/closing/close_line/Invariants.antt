@@ -1,0 +1,14 @@
+use borrow.Author.Rules.{rules}
+use Rattle.sessions.specs.Sessions.{slot_count, is_on, close_one, close_below}
+use native.Mathlib.Nat.{le_antisymm}
+use native.Mathlib.Numerals.{add-one}
+use Prim.Native.Nat.{◌-◌, ◌≤◌}
+use mathlib.Core.Path.{◌≡◌, refl, ap, ◌∙◌}
+use Rattle.sessions.proofs.closing.close_line.Given as goal
+
+-- The slots below k are done.
+abbrev pub invariant-loop-k : goal.invariant-loop-k
+invariant-loop-k l = (l.k ≤ slot_count) × (l.slots ≡ close_below (is_on l.line) l.k l.initial.slots)
+
+abbrev pub decreases-loop-k : goal.decreases-loop-k
+decreases-loop-k l = slot_count - l.k

@@ -1,0 +1,21 @@
+use borrow.Author.Rules.{rules}
+use Rattle.sessions.specs.Sessions.{slot_count, slots_of, holds}
+use Rattle.sessions.specs.SlotLaws.{slots_count, slot_within}
+use Rattle.sessions.specs.SearchLaws.{any_on, any_found, any_end}
+use Rattle.sessions.specs.Search.{any}
+use lib.ListN.{drop}
+use Prim.Native.Nat.{◌-◌, ◌≤◌}
+use mathlib.Core.Path.{◌≡◌, refl, sym, ap, ◌∙◌}
+use Rattle.sessions.proofs.opening.is_held.Goals as goal
+
+pub loop-k-init : goal.loop-k-init
+loop-k-init c = (search rules, refl)
+
+pub returns-then-holds : goal.returns-then-holds
+returns-then-holds c = sym (c.loop-k.invariant.1 ∙ any_found _ _ _ _ (slot_within c.args.slots.now _ c.loop-k-test.true) (ap (holds _) (sym c.slot_at.ensures) ∙ sym c.holds.ensures ∙ c.if-holds.true))
+
+pub loop-k-preserved : goal.loop-k-preserved
+loop-k-preserved c = (search rules, c.loop-k.invariant.1 ∙ any_on _ _ _ _ (slot_within c.args.slots.now _ c.loop-k-test.true) (ap (holds _) (sym c.slot_at.ensures) ∙ sym c.holds.ensures ∙ c.if-holds.false))
+
+pub returns : goal.returns
+returns c = sym (c.loop-k.invariant.1 ∙ any_end _ (slots_of c.args.slots.now) c.loop-k.k (rw (slots_count c.args.slots.now) c.loop-k-test.false))

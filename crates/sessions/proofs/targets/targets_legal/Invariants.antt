@@ -1,0 +1,29 @@
+use Prim.Native.Nat.{ℕ, ◌+◌, ◌≤◌, ◌<◌, ◌-◌}
+use mathlib.Core.Bool.{Bool, true, false, cond, ◌&&◌, false≢true}
+use mathlib.Core.List.{List, [], ◌∷◌}
+use mathlib.Core.Path.{◌≡◌, refl, sym, ◌∙◌}
+use native.Mathlib.Numerals.{add-one}
+use native.Mathlib.Omega.{arith}
+use lib.ListN.{length, take, drop, get_or, set, replicate, length-set, get_or-replicate}
+use lib.Seq.{take-suc, get_or-set_same, get_or-set_other}
+use lib.Dec.{ltb, eqb}
+use borrow.Author.Tests.{not-true, not-false, ltb-true, eqb-true, eqb-false}
+use borrow.Author.Rules.{rules}
+use Rattle.nodes.specs.Table.{in_use}
+use Rattle.sessions.specs.Search.{any, member}
+use Rattle.sessions.specs.SearchLaws.{member-last}
+use Rattle.sessions.specs.Sessions.{target_count, targets_legal}
+use Rattle.sessions.specs.SessionLaws.{targets_on, targets_off, targets_twice, targets_end}
+use Rattle.sessions.proofs.targets.targets_legal.Given as goal
+
+-- The nodes that are seen are those of the indices.
+pub record Seen (seen : List Bool) (ns : List ℕ) : Type 0 where
+  pub whole : length seen ≡ target_count
+  pub those : (n : ℕ) → n < target_count → get_or seen n false ≡ member n ns
+
+-- The indices before the place are legal, and are seen.
+abbrev pub invariant-loop-i : goal.invariant-loop-i
+invariant-loop-i l = (l.i ≤ length l.indices) × Seen l.seen (take l.i l.indices) × (targets_legal l.table [] l.indices ≡ targets_legal l.table (take l.i l.indices) (drop l.i l.indices))
+
+abbrev pub decreases-loop-i : goal.decreases-loop-i
+decreases-loop-i l = length l.indices - l.i

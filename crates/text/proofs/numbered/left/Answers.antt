@@ -1,0 +1,5 @@
+use borrow.Author.Rules.{rules}
+use Rattle.text.proofs.numbered.left.Goals as goal
+
+pub returns : goal.returns
+returns c = rw (c.room-2.ensures, c.room.ensures, c.room-room.ensures)

@@ -1,0 +1,18 @@
+use native.Mathlib.Omega.{arith}
+use Prim.Native.Nat.{◌-◌, ◌≤◌}
+use mathlib.Core.Path.{◌≡◌, refl}
+use lib.ListN.{length}
+use Rattle.nodes.specs.Table.{node_count}
+use Rattle.text.specs.Appended.{Leaves}
+use Rattle.transcript.specs.Lines.{appended_all, lines_below}
+use Rattle.transcript.specs.LinesLaws.{all_none, below_more}
+use Rattle.transcript.specs.State.{listed_lines}
+use borrow.Author.Rules.{rules}
+use Rattle.transcript.proofs.listing.list_nodes.Given as goal
+
+-- The nodes below the place are listed.
+abbrev pub invariant-loop-node : goal.invariant-loop-node
+invariant-loop-node l = (l.node ≤ node_count) × (length l.out ≡ length l.initial.out) × Leaves (appended_all l.initial.out l.at (lines_below (listed_lines l.table) l.node)) l.out l.end
+
+abbrev pub decreases-loop-node : goal.decreases-loop-node
+decreases-loop-node l = node_count - l.node

@@ -1,0 +1,6 @@
+use Rattle.transcript.proofs.world.Laws.{plays_bad}
+use borrow.Author.Rules.{rules}
+use Rattle.transcript.proofs.world.bad.Goals as goal
+
+pub returns : goal.returns
+returns c = plays_bad c.args.run _ _ _ c.bad_line-end.ensures

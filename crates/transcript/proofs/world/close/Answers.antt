@@ -1,0 +1,8 @@
+use Rattle.transcript.proofs.world.Laws.{plays_close}
+use borrow.Author.Rules.{rules}
+use Rattle.transcript.proofs.world.close.Goals as goal
+
+pub returns : goal.returns
+returns c =
+    rw c.with_record-kept.ensures
+    (plays_close c.args.run _ c.args.line _ _ _ (rw c.record_of.ensures at c.close_by_value-closed.ensures) c.call_line-end.ensures)

@@ -1,0 +1,6 @@
+use Rattle.transcript.proofs.world.Laws.{plays_enrol}
+use borrow.Author.Rules.{rules}
+use Rattle.transcript.proofs.world.enrol.Goals as goal
+
+pub returns : goal.returns
+returns c = plays_enrol c.args.run c.args.table.now _ _ _ _ c.enrol-answer.ensures c.call_line-end.ensures

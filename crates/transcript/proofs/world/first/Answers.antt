@@ -1,0 +1,5 @@
+use borrow.Author.Rules.{rules}
+use Rattle.transcript.proofs.world.first.Goals as goal
+
+pub returns : goal.returns
+returns c = rw (c.first-hub.ensures, c.emptied-reading.ensures)

@@ -1,0 +1,6 @@
+use Rattle.transcript.proofs.world.Laws.{plays_show}
+use borrow.Author.Rules.{rules}
+use Rattle.transcript.proofs.world.show.Goals as goal
+
+pub returns : goal.returns
+returns c = plays_show c.args.run _ c.show-end.ensures

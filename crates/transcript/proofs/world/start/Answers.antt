@@ -1,0 +1,6 @@
+use Rattle.transcript.proofs.world.Laws.{plays_start}
+use borrow.Author.Rules.{rules}
+use Rattle.transcript.proofs.world.start.Goals as goal
+
+pub returns : goal.returns
+returns c = plays_start c.args.run _ _ _ _ _ c.start-started.ensures c.call_line-end.ensures
