@@ -2,14 +2,12 @@
 -- table and its line's own record as the last one left them.
 use Rattle.std.specs.Prelude.{ℕ, List, [], ◌∷◌}
 use Rattle.line.specs.declared.Reading.{Reading}
-use Rattle.feeds.specs.Service as service
 use Rattle.feeds.specs.Service.{Lent, Got, record_for, left_by}
 use Rattle.rules.specs.declared.Hub.{Hub}
 use Rattle.rules.specs.declared.FeedAnswer.{FeedAnswer}
 use Rattle.rules.specs.Hub.{hub}
 use Rattle.rules.specs.Answers.{fed_of}
 use Rattle.rules.specs.Promises.{Feeds}
-use Rattle.rules.specs.PromiseLaws.{feeds_promise}
 use Rattle.demands.specs.Steps.{Memory}
 
 -- feeds one after another
@@ -26,11 +24,3 @@ pub record FeedList : Type 0 where
   pub got : List (Got hub)
   pub end : Memory
   pub run : Run start lent got end
-
--- it is one of a hub's feeds as crate feeds has them, so what is used, told and compared of it is defined there
-pub run_promised : {m v : Memory} {gs : List Lent} {os : List (Got hub)} → Run m gs os v → service.Run hub m gs os v
-run_promised stop = service.stop
-run_promised (next x rest) = service.next (feeds_promise x) (run_promised rest)
-
-abbrev pub feeds_of : FeedList → service.Feeds hub
-feeds_of F = record { start = F.start; lent = F.lent; got = F.got; end = F.end; run = run_promised F.run }

@@ -1,17 +1,6 @@
 pub mod Calls
 pub mod Invariants
-pub mod Guard
 pub mod Steps
 pub mod FeedLists
-pub mod Kept
-pub mod StepsLaws
-pub mod Logins
-pub mod Passwords
-pub mod OneHolder
-pub mod ErrorReply
-pub mod Feeds
-pub mod FeedListLaws
-pub mod Demand3
 pub mod Frames
 pub mod Demands
-pub mod Demand3Example

@@ -77,3 +77,7 @@ module _ (H : System) where
     unfoldable pub in_pieces : World H → List (List ℕ) → List Entry
     in_pieces w [] = []
     in_pieces w (p ∷ ps) = until_used (length p) w p ++ in_pieces (end_state H w (until_used (length p) w p)) ps
+
+-- The lines of such a list, in order.
+abbrev pub lines_of : List (ℕ × Outcome) → List ℕ
+lines_of = map (λ (x : ℕ × Outcome). x.0)

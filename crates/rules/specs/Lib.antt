@@ -1,13 +1,4 @@
 pub mod Hub
-pub mod Cases
-pub mod Refusals
-pub mod PasswordLaws
 pub mod Promises
-pub mod Lengths
 pub mod Frames
-pub mod Longest
-pub mod Examples
-pub mod RequestVectors
 pub mod Answers
-pub mod PromiseLaws
-pub mod CallExamples

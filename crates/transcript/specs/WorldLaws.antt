@@ -13,12 +13,12 @@ use Rattle.frame.specs.declared.FrameOutcome.{FrameOutcome as Given}
 use Rattle.frame.specs.declared.FrameOutcome.TheVariants as given
 use Rattle.feeds.specs.System as system
 use Rattle.feeds.specs.Service.{length_of, called}
-use Rattle.feeds.specs.ServiceLaws.{call_length, refused_untouched}
+use Rattle.feeds.proofs.ServiceLaws.{call_length, refused_untouched}
 use Rattle.sessions.specs.Sessions as sessions
 use Rattle.rules.specs.declared.Hub.{Hub}
 use Rattle.rules.specs.Hub as rules
 use Rattle.rules.specs.Promises.{Finishes}
-use Rattle.rules.specs.Refusals.{finish_refused}
+use Rattle.rules.proofs.RefusalLaws.{finish_refused}
 use Rattle.rules.specs.declared.CallAnswer.{CallAnswer}
 use Rattle.rules.specs.declared.CallAnswer.TheVariants as call
 use Rattle.rules.specs.declared.FinishAnswer.{FinishAnswer}
@@ -28,7 +28,7 @@ use Rattle.rules.specs.declared.FeedAnswer.{FeedAnswer}
 use Rattle.rules.specs.declared.FeedAnswer.TheVariants as feed
 use Rattle.rules.specs.Answers.{number, refusal_of, answer_of}
 use Rattle.rules.specs.Promises.{Feeds}
-use Rattle.rules.specs.PromiseLaws.{feeds_promise}
+use Rattle.rules.proofs.PromiseLaws.{feeds_promise}
 use Rattle.report.specs.Report.{frame_line, has_other, has_spilled}
 use Rattle.transcript.specs.Replies.{filler, call_line, refusal_line, finish_line, outcome_line, feed_line}
 use Rattle.transcript.specs.World.{call_told, finish_told, outcome_told, feed_told}

@@ -17,13 +17,13 @@ use Rattle.replies.specs.Messages.{bytes_of}
 use Rattle.replies.specs.declared.Reply.{Reply}
 use Rattle.replies.specs.Replies.{says}
 use Rattle.feeds.specs.System.{told, call, decided, settled}
-use Rattle.feeds.specs.CallLaws.{call_refused}
+use Rattle.feeds.proofs.CallLaws.{call_refused}
 use Rattle.rules.specs.declared.Hub.{Hub}
 use Rattle.rules.specs.declared.CallRefusal.{CallRefusal}
 use Rattle.rules.specs.declared.CallRefusal.TheVariants as cause
 use Rattle.rules.specs.declared.FeedAnswer.TheVariants as feed
 use Rattle.rules.specs.Hub.{respond_if, written, feed_refusal, hub}
-use Rattle.rules.specs.Refusals.{served, refused_room, not_refused}
+use Rattle.rules.proofs.RefusalLaws.{served, refused_room, not_refused}
 use Rattle.rules.specs.Answers.{number}
 use Rattle.rules.specs.Promises.{Feeds}
 use Rattle.requests.specs.Answers.{Left, carried_out, data_length, data_in, Decides}

@@ -10,14 +10,14 @@ use Rattle.memory.specs.WroteLaws.{take_min, sets-whole}
 use Rattle.line.specs.declared.Reading.{Reading}
 use Rattle.frame.specs.Reader.{emptied_reading, taken}
 use Rattle.feeds.specs.Service as service
-use Rattle.feeds.specs.ServiceLaws.{map-set, promise_feed}
+use Rattle.feeds.proofs.ServiceLaws.{map-set, promise_feed}
 use Rattle.rules.specs.declared.Hub.{Hub}
 use Rattle.rules.specs.Promises.{Starts, Enrols, Finishes}
 use Rattle.rules.specs.declared.CallAnswer.{CallAnswer}
 use Rattle.rules.specs.declared.FinishAnswer.{FinishAnswer}
 use Rattle.rules.specs.declared.FeedAnswer.{FeedAnswer}
 use Rattle.rules.specs.Promises.{Closes, Feeds}
-use Rattle.rules.specs.PromiseLaws.{feeds_promise}
+use Rattle.rules.proofs.PromiseLaws.{feeds_promise}
 use Rattle.report.specs.Report.{has_other, bad_line, long_line}
 use Rattle.text.specs.Appended.{appended, Leaves}
 use Rattle.transcript.specs.Lines.{appended_all}

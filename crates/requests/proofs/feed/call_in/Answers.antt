@@ -1,4 +1,4 @@
-use Rattle.rules.specs.Refusals.{refused_table, refused_line_lem}
+use Rattle.rules.proofs.RefusalLaws.{refused_table, refused_line_lem}
 use Rattle.frame.specs.Reader.{taken}
 use Rattle.requests.specs.Answers.{reading_at}
 use Rattle.requests.proofs.feed.Laws.{refused_feeds}

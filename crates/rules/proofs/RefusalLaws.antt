@@ -14,7 +14,7 @@ use Rattle.sessions.specs.Sessions as sessions
 use Rattle.sessions.specs.Search.{any, first}
 use Rattle.sessions.specs.Sessions.{sessions_size, slots_of, slot_at, with_slot, closed_slot, is_numbered}
 use Rattle.feeds.specs.System.{refused as refused_feed, serve_if, Called, call}
-use Rattle.feeds.specs.CallLaws.{call_refused, answer_refused}
+use Rattle.feeds.proofs.CallLaws.{call_refused, answer_refused}
 use Rattle.replies.specs.Messages.{error, bytes_of}
 use Rattle.rules.specs.declared.Hub.{Hub}
 use Rattle.rules.specs.Hub.{frame_error, respond, respond_if, Reply, serve, start_refusal, start_by, start, enrol_refusal, enrol_by, enrol, close_refusal, close_by, Closed, closed_line, close, Finish, refused_finish, finished_on, Finished, finish_by, finish, notice, with_slots, line_count, password_size, written, refuse_if, wrong_table, wrong_line, short_room, feed_refusal, hub}

@@ -13,8 +13,8 @@ use Rattle.feeds.specs.System.{Entry, System, Answer, Result, World, serve_if, s
 use Rattle.feeds.specs.Marks.{answers_of, outcome_of, used_on, told_on}
 use Rattle.feeds.specs.Sent.{Sent, frame_of, sent}
 use Rattle.feeds.specs.Serving.{with_line, told_all, reply_with, replies_told, ServedAll, AllOn, on_line, reply_first, serve_all, served_by}
-use Rattle.feeds.specs.SystemLaws.{Fed, barred, done, fed, fed_length_lem, own, own-set, told-outcomes, told-final}
-use Rattle.feeds.specs.SentLaws.{outcomes_frames}
+use Rattle.feeds.proofs.SystemLaws.{Fed, barred, done, fed, fed_length_lem, own, own-set, told-outcomes, told-final}
+use Rattle.feeds.proofs.SentLaws.{outcomes_frames}
 
 -- One outcome of the line before others.
 also_line : (l : ℕ) (o : Option Outcome) (os : List Outcome) → also (with_line l o) (on_line l os) ≡ on_line l (also o os)

@@ -9,8 +9,8 @@ use Rattle.frame.specs.Reader.{State}
 use Rattle.feeds.specs.System.{Entry, System, World, results, end_state}
 use Rattle.feeds.specs.Marks.{answers_of, used_on, told_on}
 use Rattle.feeds.specs.Serving.{replies_told, ServedAll, AllOn, served_by, in_pieces}
-use Rattle.feeds.specs.ServingLaws.{LineServed, line_served}
-use Rattle.feeds.specs.Reach.{pieces_on, pieces_used}
+use Rattle.feeds.proofs.ServingLaws.{LineServed, line_served}
+use Rattle.feeds.proofs.Reach.{pieces_on, pieces_used}
 
 module _ (H : System) (l : ℕ) (w : World H) where
   -- Two lists of feeds tell the same outcomes on line l, send the same replies with them in order, and end in the same hub, table and states.

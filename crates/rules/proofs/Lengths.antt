@@ -7,7 +7,7 @@ use Rattle.nodes.specs.TableLaws.{set_field-length, set_variation-length, remove
 use Rattle.directory.specs.Lookup as directory
 use Rattle.rules.specs.declared.Hub.{Hub}
 use Rattle.rules.specs.Hub.{Response, remove_nodes, virgin_state, mode_send, request, may_ask, respond, serve}
-use Rattle.rules.specs.Cases.{either, each_verdict, each_request}
+use Rattle.rules.proofs.Cases.{either, each_verdict, each_request}
 
 abbrev Kept : List ℕ → Response → Type 0
 Kept t r = length r.table ≡ length t

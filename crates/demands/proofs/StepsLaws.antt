@@ -9,11 +9,11 @@ use Rattle.sessions.specs.Sessions as sessions
 use Rattle.feeds.specs.System as system
 use Rattle.feeds.specs.Marks.{outcome_of, unmarked}
 use Rattle.feeds.specs.Service.{entry_of, world_of, result_of, record_for}
-use Rattle.feeds.specs.ServiceLaws.{map-set, promise_feed}
+use Rattle.feeds.proofs.ServiceLaws.{map-set, promise_feed}
 use Rattle.rules.specs.declared.Hub.{Hub}
 use Rattle.rules.specs.Hub as rules
-use Rattle.rules.specs.PromiseLaws.{feeds_promise}
-use Rattle.demands.specs.Kept.{start-any, enrol-any, close-any, finish-any, feed-any}
+use Rattle.rules.proofs.PromiseLaws.{feeds_promise}
+use Rattle.demands.proofs.Kept.{start-any, enrol-any, close-any, finish-any, feed-any}
 use Rattle.demands.specs.Calls as calls
 use Rattle.demands.specs.Calls.{World, is_password, unless_refused, new_password, replaced_by, started_with, after, after_all}
 use Rattle.demands.specs.Steps.{Memory, Step, start, enrol, close, finish, feed, Return, line_record, Made, starts, enrols, closes, finishes, feeds, Steps, stop, next, refusal, finish_tells, feed_tells, refusal_told, is_refusal, is_refused, is_privileged, Unprivileged, logged_by, logged_by_all, password_by, password_by_all, call_of}

@@ -20,7 +20,7 @@ use Rattle.nodes.specs.Table.{table_size, is_node, in_use, emptied, enrolled}
 use Rattle.sessions.specs.Sessions as sessions
 use Rattle.feeds.specs.System as system
 use Rattle.feeds.specs.System.{Called, call, settled, serve_if}
-use Rattle.feeds.specs.CallLaws.{read_resets, call_refused, call-read}
+use Rattle.feeds.proofs.CallLaws.{read_resets, call_refused, call-read}
 use Rattle.passwords.specs.Passwords.{stored}
 use Rattle.rules.specs.declared.Hub.{Hub}
 use Rattle.rules.specs.Hub.{line_count, password_size, wrong_table, wrong_line, short_room, refuse_if, fresh_hub, closed_line, with_slots, notice, written, feed_refusal, hub}

@@ -13,8 +13,9 @@ use Rattle.feeds.specs.System.{Answer, refused, told, settled, serve_if, decided
 use Rattle.feeds.specs.Marks.{count_of, outcome_of, counted, used_on, marks_from}
 use Rattle.feeds.specs.Sent.{sent}
 use Rattle.feeds.specs.Service.{Lent, Got, Memory, entry_of, Promise, record_for, Run, stop, next, Feeds, marks_in}
-use Rattle.feeds.specs.Demand3.{Line, OneDamaged, Harmless, harmless}
-use Rattle.feeds.specs.Example.{serve, refusal, Counting, short_at, one, example_damage}
+use Rattle.feeds.specs.Demand3.{Line, OneDamaged, Harmless}
+use Rattle.feeds.proofs.Demand3.{harmless}
+use Rattle.feeds.proofs.Example.{serve, refusal, Counting, short_at, one, example_damage}
 
 -- A record that claims more than 255 bytes: it is taken as one between packets.
 unfoldable junk : Reading

@@ -14,10 +14,10 @@ use Rattle.feeds.specs.System.{Entry, System, World, Called, settled, call}
 use Rattle.feeds.specs.Service.{Lent, Got, Memory, entry_of, world_of, Promise, record_for, left_by, Run, stop, next, Feeds, entries_in, used_in}
 use Rattle.feeds.specs.Marks.{answers_of, used_on, unmarked}
 use Rattle.feeds.specs.Serving.{Every, in_pieces}
-use Rattle.feeds.specs.ServiceLaws.{map-unmarked, run_answers}
-use Rattle.feeds.specs.Reach.{pieces_every, pieces_used}
+use Rattle.feeds.proofs.ServiceLaws.{map-unmarked, run_answers}
+use Rattle.feeds.proofs.Reach.{pieces_every, pieces_used}
 use Rattle.feeds.specs.Demand3.{Without}
-use Rattle.feeds.specs.CallLaws.{call_refused, call-read, answer_refused}
+use Rattle.feeds.proofs.CallLaws.{call_refused, call-read, answer_refused}
 
 -- What is lent for an entry.
 unfoldable pub lent_of : Entry → Lent

@@ -9,15 +9,15 @@ use Rattle.nodes.specs.Table.{table_size}
 use Rattle.feeds.specs.System.{Entry, told, state_for, call, decided, returned, feed, results, error_reply}
 use Rattle.feeds.specs.Marks.{answers_of, outcome_of, used_on, told_on}
 use Rattle.feeds.specs.Serving.{in_pieces}
-use Rattle.feeds.specs.CallLaws.{packet_refused}
-use Rattle.feeds.specs.Reach.{pieces_used}
-use Rattle.feeds.specs.Cutting.{Same, cut_same}
+use Rattle.feeds.proofs.CallLaws.{packet_refused}
+use Rattle.feeds.proofs.Reach.{pieces_used}
+use Rattle.feeds.proofs.Cutting.{Same, cut_same}
 use Rattle.rules.specs.declared.Hub.{Hub}
 use Rattle.rules.specs.Hub.{line_count, wrong_table, wrong_line, refuse_if, feed_refusal, hub}
 use Rattle.demands.specs.Calls.{World}
-use Rattle.demands.specs.ErrorReply.{only_error_reply}
-use Rattle.rules.specs.Lengths.{serve-kept}
-use Rattle.rules.specs.Longest.{longest_reply, room_enough}
+use Rattle.demands.proofs.ErrorReply.{only_error_reply}
+use Rattle.rules.proofs.Lengths.{serve-kept}
+use Rattle.rules.proofs.Longest.{longest_reply, room_enough}
 
 module _ (h : Hub) (t : List ℕ) (s : State) (l : ℕ) (bytes : List ℕ) (room : ℕ) where
   -- a refused packet is used up, to its END, and brings one error reply only

@@ -6,14 +6,14 @@ use Rattle.std.proofs.Math.Option.{none, some}
 use Rattle.frame.specs.Frame.{Outcome, frame, refused}
 use Rattle.directory.specs.Lookup as directory
 use Rattle.feeds.specs.System as feeds
-use Rattle.feeds.specs.SystemLaws.{Fed, barred, done, fed}
+use Rattle.feeds.proofs.SystemLaws.{Fed, barred, done, fed}
 use Rattle.rules.specs.declared.Hub.{Hub}
 use Rattle.demands.specs.Invariants.{Unchanged}
 use Rattle.demands.specs.Calls.{World, Call, start, enrol, close, finish, feed, after, after_all, Unprivileged}
 use Rattle.passwords.specs.Passwords.{is_same}
 use Rattle.replies.specs.Messages.{password_entered}
 use Rattle.rules.specs.Hub.{Response, password_enter, failure, frame_error, not_logged_in, Password, enter, reply, request, is_logged_in, respond, serve, hub}
-use Rattle.rules.specs.Cases.{either, each_verdict}
+use Rattle.rules.proofs.Cases.{either, each_verdict}
 
 -- said of what an outcome leaves
 abbrev Guarded : Hub → List ℕ → Response → Type 0

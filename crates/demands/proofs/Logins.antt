@@ -13,12 +13,12 @@ use Rattle.directory.specs.Lookup as lookup
 use Rattle.directory.specs.DirectoryLaws.{verdict_fixed}
 use Rattle.feeds.specs.System as feeds
 use Rattle.feeds.specs.Marks.{outcome_of}
-use Rattle.feeds.specs.SystemLaws.{Fed, barred, done, fed}
+use Rattle.feeds.proofs.SystemLaws.{Fed, barred, done, fed}
 use Rattle.rules.specs.declared.Hub.{Hub}
 use Rattle.passwords.specs.Passwords.{is_same}
 use Rattle.replies.specs.Messages.{password_entered}
 use Rattle.rules.specs.Hub as rules
-use Rattle.rules.specs.Cases.{either, each_verdict, each_request}
+use Rattle.rules.proofs.Cases.{either, each_verdict, each_request}
 use Rattle.demands.specs.Calls.{World, Call, start, enrol, close, finish, feed, after, after_all, is_password, unless_refused, logged_by, logged_by_all}
 
 -- ---- serving an outcome

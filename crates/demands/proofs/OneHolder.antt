@@ -10,11 +10,11 @@ use Rattle.sessions.specs.Sessions as sessions
 use Rattle.sessions.specs.Holders.{holders, close-holders, close_all-holders, mode_send-holders, finish-holders, left_by}
 use Rattle.directory.specs.Lookup as directory
 use Rattle.feeds.specs.System as feeds
-use Rattle.feeds.specs.SystemLaws.{Fed, barred, done, fed}
+use Rattle.feeds.proofs.SystemLaws.{Fed, barred, done, fed}
 use Rattle.rules.specs.declared.Hub.{Hub}
 use Rattle.passwords.specs.Passwords.{is_same}
 use Rattle.rules.specs.Hub.{Response, Password, enter, change, remove_nodes, virgin_state, mode_send, request, may_ask, respond, serve, start_refusal, start_by, close_refusal, close_by, finish_by, notice, hub}
-use Rattle.rules.specs.Cases.{either, each_verdict, each_request}
+use Rattle.rules.proofs.Cases.{either, each_verdict, each_request}
 use Rattle.demands.specs.Invariants.{OneAtMost}
 use Rattle.demands.specs.Calls.{World, Call, start, enrol, close, finish, feed, after, after_all}
 

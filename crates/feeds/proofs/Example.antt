@@ -11,7 +11,7 @@ use Rattle.frame.specs.Damage.{Damage, lost, further}
 use Rattle.feeds.specs.System.{Entry, Served, System, refused, told, Result, World, settled, serve_if, decided, call, state_for, returned, feed, results, end_state, error_reply}
 use Rattle.feeds.specs.Marks.{answers, replies, answers_of, count_of, outcome_of, counted, used_on, told_on, marks_from, marks, marked, unmarked, nonempty}
 use Rattle.feeds.specs.Sent.{Sent, enclosed, sent}
-use Rattle.feeds.specs.AnyHub.{DamageIsolated, damage_isolated}
+use Rattle.feeds.proofs.AnyHub.{DamageIsolated, damage_isolated}
 
 -- The hub counts frames, and answers each with its count.
 unfoldable pub serve : ℕ → Unit {0} → ℕ → Outcome → Served ℕ (Unit {0})

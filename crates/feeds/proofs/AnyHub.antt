@@ -8,9 +8,9 @@ use Rattle.frame.specs.Damage.{Damage}
 use Rattle.feeds.specs.System.{Entry, System, World, error_reply, OnlyErrorReply}
 use Rattle.feeds.specs.Marks.{answers_of, used_on, told_on, marks, Isolated}
 use Rattle.feeds.specs.Sent.{Sent, frame_of, enclosed, sent, sent_then}
-use Rattle.feeds.specs.SystemLaws.{own, told-outcomes}
-use Rattle.feeds.specs.SentLaws.{outcomes_damaged, outcomes_then, outcomes_recovered}
-use Rattle.feeds.specs.Isolation.{isolated}
+use Rattle.feeds.proofs.SystemLaws.{own, told-outcomes}
+use Rattle.feeds.proofs.SentLaws.{outcomes_damaged, outcomes_then, outcomes_recovered}
+use Rattle.feeds.proofs.Isolation.{isolated}
 
 -- A damaged frame behind the frames `before` and before the bytes `rest`: its feeds are isolated, and its outcome is a packet refusal.
 pub record DamageIsolated (H : System) (l : ℕ) (w : World H) (es : List Entry) (before : List Sent) (rest : List ℕ) : Type 0 where

@@ -13,7 +13,7 @@ use Rattle.frame.specs.Frame.{Outcome}
 use Rattle.frame.specs.Reader.{also, outcomes, State, emptied, step}
 use Rattle.feeds.specs.System.{Entry, Served, System, Result, Called, World, serve_if, settled, call, state_for, returned, feed, results, end_state}
 use Rattle.feeds.specs.Marks.{replies, answers_of, outcome_of, counted, outcome_on, used_on, marks_from, marks, marked, unmarked, nonempty, Isolated}
-use Rattle.feeds.specs.SystemLaws.{Fed, barred, done, fed, fed_length_lem, done_resets, own, own-set, fed_told, told-before}
+use Rattle.feeds.proofs.SystemLaws.{Fed, barred, done, fed, fed_length_lem, done_resets, own, own-set, fed_told, told-before}
 
 -- Both cases alike.
 same_cond : {A : Type 0} (t : Bool) (a : A) → cond t a a ≡ a

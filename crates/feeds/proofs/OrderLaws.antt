@@ -8,18 +8,14 @@ use Rattle.frame.specs.Frame.{Outcome}
 use Rattle.frame.specs.Reader.{also, outcomes, State, emptied, final, step}
 use Rattle.feeds.specs.System.{Entry, System, Answer, World, feed, results, end_state}
 use Rattle.feeds.specs.Marks.{answers_of, outcome_of, used_on, told_on}
-use Rattle.feeds.specs.Serving.{with_line, told_all, replies_told, ServedAll, served_by, serve_all}
-use Rattle.feeds.specs.ServingLaws.{served_in_order}
-use Rattle.feeds.specs.SystemLaws.{fed, fed_length_lem, own, told-outcomes, told-final}
+use Rattle.feeds.specs.Serving.{lines_of, with_line, told_all, replies_told, ServedAll, served_by, serve_all}
+use Rattle.feeds.proofs.ServingLaws.{served_in_order}
+use Rattle.feeds.proofs.SystemLaws.{fed, fed_length_lem, own, told-outcomes, told-final}
 
 -- Of outcomes with their lines, those of line l.
 unfoldable pub of_line : ℕ → List (ℕ × Outcome) → List Outcome
 of_line l [] = []
 of_line l (x ∷ xs) = cond (eqb x.0 l) (x.1 ∷ of_line l xs) (of_line l xs)
-
--- The lines of such a list, in order.
-abbrev pub lines_of : List (ℕ × Outcome) → List ℕ
-lines_of = map (λ (x : ℕ × Outcome). x.0)
 
 -- What is told on a line are its outcomes of those told on all.
 told_of : (l : ℕ) (es : List Entry) (rs : List Answer) → of_line l (told_all es rs) ≡ told_on l es rs

@@ -9,20 +9,22 @@ use Rattle.nodes.specs.Table.{table_size}
 use Rattle.feeds.specs.System.{Entry}
 use Rattle.feeds.specs.Marks.{used_on, unmarked, answers_of}
 use Rattle.feeds.specs.Serving.{in_pieces}
-use Rattle.feeds.specs.SystemLaws.{own, told-final}
-use Rattle.feeds.specs.Reach.{pieces_every}
-use Rattle.feeds.specs.Runs.{lent_of, lent-entries}
+use Rattle.feeds.proofs.SystemLaws.{own, told-final}
+use Rattle.feeds.proofs.Reach.{pieces_every}
+use Rattle.feeds.proofs.Runs.{lent_of, lent-entries}
 use Rattle.feeds.specs.Service.{Lent, Got, entry_of, world_of, record_for, left_by, entries_in, answers_in, used_in}
-use Rattle.feeds.specs.ServiceLaws.{map-unmarked, run_answers, run_end}
-use Rattle.feeds.specs.Demand3.{Line, record_at, own-taken, has_line, Without}
+use Rattle.feeds.proofs.ServiceLaws.{map-unmarked, run_answers, run_end}
+use Rattle.feeds.specs.Demand3.{Line, record_at, Without}
+use Rattle.feeds.proofs.Demand3.{own-taken, has_line}
 use Rattle.rules.specs.Hub.{hub, line_count}
 use Rattle.rules.specs.Answers.{fed_of}
-use Rattle.rules.specs.Longest.{longest_reply}
+use Rattle.rules.proofs.Longest.{longest_reply}
 use Rattle.demands.specs.Calls.{World}
 use Rattle.demands.specs.Steps.{Memory}
-use Rattle.demands.specs.Kept.{feed-any}
-use Rattle.demands.specs.Feeds as feeding
-use Rattle.demands.specs.FeedLists.{Run, stop, next, FeedList, feeds_of}
+use Rattle.demands.proofs.Kept.{feed-any}
+use Rattle.demands.proofs.Feeds as feeding
+use Rattle.demands.specs.FeedLists.{Run, stop, next, FeedList}
+use Rattle.demands.proofs.FeedLists.{feeds_of}
 
 pub run_any : (m : Memory) (gs : List Lent) → (os : List (Got hub)) × (e : Memory) × Run m gs os e
 run_any m [] = ([], m, stop)

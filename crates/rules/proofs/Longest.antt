@@ -21,8 +21,8 @@ use Rattle.replies.specs.Messages.{Message, information_confirmed, session_finis
 use Rattle.feeds.specs.System.{refused as refused_feed, told, serve_if, settled, decided, call}
 use Rattle.rules.specs.declared.Hub.{Hub}
 use Rattle.rules.specs.Hub.{password_size, Response, remove_nodes, virgin_state, mode_send, request, may_ask, respond, serve, finished_on, notice, Finished, finish_by, finish, written, feed_refusal, hub}
-use Rattle.rules.specs.Cases.{either, each_verdict, each_request}
-use Rattle.rules.specs.Refusals.{not_refused, finish-done}
+use Rattle.rules.proofs.Cases.{either, each_verdict, each_request}
+use Rattle.rules.proofs.RefusalLaws.{not_refused, finish-done}
 
 -- ---- frame 0201: node and check byte are not both doubled
 

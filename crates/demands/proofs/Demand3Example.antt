@@ -18,14 +18,14 @@ use Rattle.feeds.specs.System.{Entry, refused, told, Result, serve_if, settled, 
 use Rattle.feeds.specs.Marks.{answers, count_of, outcome_of, counted, used_on, marks_from, marks, unmarked, Isolated}
 use Rattle.feeds.specs.Sent.{Sent, enclosed, sent}
 use Rattle.feeds.specs.Service.{world_of}
-use Rattle.feeds.specs.AnyHub.{DamageIsolated, damage_isolated}
+use Rattle.feeds.proofs.AnyHub.{DamageIsolated, damage_isolated}
 use Rattle.memory.specs.Octets.{same}
 use Rattle.passwords.specs.Passwords.{password_of}
 use Rattle.replies.specs.Messages.{bytes_of, about_node}
 use Rattle.rules.specs.Hub as rules
 use Rattle.rules.specs.Hub.{first_hub, hub, serve}
 use Rattle.demands.specs.Calls.{World}
-use Rattle.demands.specs.ErrorReply.{only_error_reply}
+use Rattle.demands.proofs.ErrorReply.{only_error_reply}
 
 -- a record with garbage in it
 unfoldable overfull : Reading

@@ -4,12 +4,14 @@ use Rattle.std.specs.Prelude.{ℕ, ◌<◌, ◌≡◌, Bool, List, length}
 use Rattle.nodes.specs.Table.{table_size}
 use Rattle.feeds.specs.Service.{used_in}
 use Rattle.feeds.specs.Demand3 as any_hub
-use Rattle.feeds.specs.Demand3.{OneDamaged, Without, Harmless, AnyThenFrames, Recovered, demand3}
+use Rattle.feeds.specs.Demand3.{OneDamaged, Without, Harmless, AnyThenFrames, Recovered}
+use Rattle.feeds.proofs.Demand3.{demand3}
 use Rattle.rules.specs.Hub.{line_count, hub}
 use Rattle.demands.specs.Steps.{Memory}
-use Rattle.demands.specs.FeedLists.{FeedList, feeds_of}
-use Rattle.demands.specs.FeedListLaws.{list_without, list-used}
-use Rattle.demands.specs.ErrorReply.{only_error_reply}
+use Rattle.demands.specs.FeedLists.{FeedList}
+use Rattle.demands.proofs.FeedLists.{feeds_of}
+use Rattle.demands.proofs.FeedListLaws.{list_without, list-used}
+use Rattle.demands.proofs.ErrorReply.{only_error_reply}
 
 -- Demand 3, whole.
 pub record Demand3 : Type 0 where

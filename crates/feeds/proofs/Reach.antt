@@ -13,8 +13,8 @@ use Rattle.frame.specs.Reader.{State}
 use Rattle.feeds.specs.System.{Entry, System, Result, World, serve_if, settled, state_for, returned, feed, results, end_state}
 use Rattle.feeds.specs.Marks.{answers_of, count_of, used_on}
 use Rattle.feeds.specs.Serving.{Every, AllOn, entry_for, until_used, in_pieces}
-use Rattle.feeds.specs.CallLaws.{call-some}
-use Rattle.feeds.specs.SystemLaws.{Fed, barred, done, fed}
+use Rattle.feeds.proofs.CallLaws.{call-some}
+use Rattle.feeds.proofs.SystemLaws.{Fed, barred, done, fed}
 
 -- What holds of each of some entries and of each of others holds of all.
 every_append : (P : Entry → Type 0) (a b : List Entry) → Every P a → Every P b → Every P (a ++ b)

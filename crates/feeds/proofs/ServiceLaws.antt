@@ -10,7 +10,7 @@ use Rattle.line.specs.declared.Reading.{Reading}
 use Rattle.frame.specs.Reader.{State, read, taken}
 use Rattle.feeds.specs.System.{System, Answer, refused, Result, Called, World, settled, decided, call, state_for, returned, feed, results, end_state}
 use Rattle.feeds.specs.Marks.{answers, answers_of, unmarked}
-use Rattle.feeds.specs.CallLaws.{call_refused, answer_refused}
+use Rattle.feeds.proofs.CallLaws.{call_refused, answer_refused}
 use Rattle.feeds.specs.Service.{Lent, Got, Memory, entry_of, world_of, length_of, result_of, called, Promise, record_for, left_by, Run, stop, next, Feeds, entries_in, results_in, answers_in}
 
 -- A list's elements mapped, with one set.

@@ -5,7 +5,7 @@ use Rattle.passwords.specs.PasswordLaws.{is_same_equal, is_same-other, stored_pa
 use Rattle.nodes.specs.Table.{table_size}
 use Rattle.rules.specs.declared.Hub.{Hub}
 use Rattle.rules.specs.Hub.{with_login, with_password, enter, change, start}
-use Rattle.rules.specs.Refusals.{start-done}
+use Rattle.rules.proofs.RefusalLaws.{start-done}
 
 pub enter-right : (h : Hub) (l : ℕ) (d : List ℕ) → password_of d ≡ password_of h.password → enter h l d ≡ record { status = 0; hub = with_login h l }
 unfolding enter

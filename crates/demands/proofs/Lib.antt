@@ -1,0 +1,14 @@
+pub mod Guard
+pub mod Kept
+pub mod StepsLaws
+pub mod Logins
+pub mod Passwords
+pub mod OneHolder
+pub mod ErrorReply
+pub mod Feeds
+pub mod FeedListLaws
+pub mod Demand3
+pub mod Demand3Example
+pub mod FeedLists
+pub mod Frames
+pub mod Demands

@@ -1,0 +1,15 @@
+pub mod MarksLaws
+pub mod CallLaws
+pub mod SystemLaws
+pub mod SentLaws
+pub mod Isolation
+pub mod AnyHub
+pub mod ServiceLaws
+pub mod ServingLaws
+pub mod Reach
+pub mod Runs
+pub mod Cutting
+pub mod OrderLaws
+pub mod Example
+pub mod ServiceExample
+pub mod Demand3

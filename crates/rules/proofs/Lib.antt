@@ -1,0 +1,10 @@
+pub mod Cases
+pub mod RefusalLaws
+pub mod PasswordLaws
+pub mod Lengths
+pub mod Longest
+pub mod Examples
+pub mod RequestVectors
+pub mod PromiseLaws
+pub mod CallExamples
+pub mod Frames
