@@ -5,9 +5,9 @@
 
 mod old_bytes;
 
-use libc::STDOUT_FILENO;
 use line::{DecodedPlace, Fault, FaultAt, Mode, PacketOutcome, Reading, WirePlace};
 use rules::FedByValue;
+use std::io::{Print, Stdout};
 use text::{COLON, GAP, LINE_END, NOTHING, PACKET};
 
 // Where a text ends, and the record after the bytes read so far.
@@ -43,9 +43,10 @@ const TOO_MANY: [u8; 9] = *b" too many";
 // An escaped END.
 const PAIR: [u8; 2] = [line::ESC, line::ESC_END];
 
-fn print(page: &[u8], end: usize) {
+// Where the output is not taken, the cases go on, here and below.
+fn print(stdout: Stdout, page: &[u8], end: usize) {
     if end <= page.len() {
-        io::write_all(STDOUT_FILENO, &page[0..end]);
+        let _ = stdout.write_all(&page[0..end]);
     }
 }
 
@@ -149,12 +150,12 @@ fn cuts_agree(wire: &[u8], whole: &[u8]) -> bool {
 }
 
 // The wire is an END, n times 55, then `tail`.
-fn show_case(name: &[u8], n: usize, tail: &[u8]) {
-    show_escaped(name, 0, n, tail);
+fn show_case(stdout: Stdout, name: &[u8], n: usize, tail: &[u8]) {
+    show_escaped(stdout, name, 0, n, tail);
 }
 
 // The wire is an END, so many escaped ENDs, n times 55, then `tail`.
-fn show_escaped(name: &[u8], pairs: usize, n: usize, tail: &[u8]) {
+fn show_escaped(stdout: Stdout, name: &[u8], pairs: usize, n: usize, tail: &[u8]) {
     let mut wire = [0x55u8; 600];
     wire[0] = line::END;
     if 256 < pairs {
@@ -173,8 +174,8 @@ fn show_escaped(name: &[u8], pairs: usize, n: usize, tail: &[u8]) {
     if 600 < whole {
         return;
     }
-    io::write_all(STDOUT_FILENO, name);
-    show_cuts(&wire[0..whole]);
+    let _ = stdout.write_all(name);
+    show_cuts(stdout, &wire[0..whole]);
 }
 
 // Escaped ENDs behind the first byte, no more than 256.
@@ -189,75 +190,107 @@ fn put_pairs(wire: &mut [u8], pairs: usize) {
     }
 }
 
-fn show_cuts(wire: &[u8]) {
+fn show_cuts(stdout: Stdout, wire: &[u8]) {
     let mut page = [0u8; PAGE];
     let end = put_cut(&mut page, wire, wire.len());
     if PAGE < end {
         return;
     }
-    print(&page, end);
+    print(stdout, &page, end);
     if !cuts_agree(wire, &page[0..end]) {
-        io::write_all(STDOUT_FILENO, b"differs where it is cut\n");
+        let _ = stdout.write_all(b"differs where it is cut\n");
     }
 }
 
-fn show_short() {
-    show_case(b"P2", 0, b"\xC0\xC0");
-    show_case(b"P7", 0, b"\xDB\xC0");
-    show_case(b"ESC ESC", 0, b"\xDB\xDB\xC0");
+fn show_short(stdout: Stdout) {
+    show_case(stdout, b"P2", 0, b"\xC0\xC0");
+    show_case(stdout, b"P7", 0, b"\xDB\xC0");
+    show_case(stdout, b"ESC ESC", 0, b"\xDB\xDB\xC0");
 }
 
-fn show_escapes() {
-    show_case(b"DC and DD outside an escape", 0, b"\xDC\xDD\xDC\xC0");
+fn show_escapes(stdout: Stdout) {
     show_case(
+        stdout,
+        b"DC and DD outside an escape",
+        0,
+        b"\xDC\xDD\xDC\xC0",
+    );
+    show_case(
+        stdout,
         b"escapes and an empty piece",
         0,
         b"\x01\xDB\xDC\xDB\xDD\x02\xC0\xC0\x03\xC0",
     );
-    show_case(b"open in an escape", 0, b"\x01\xDB");
+    show_case(stdout, b"open in an escape", 0, b"\x01\xDB");
 }
 
-fn show_wrong_escape() {
-    show_case(b"open after a wrong escape", 0, b"\x01\xDB\x02");
+fn show_wrong_escape(stdout: Stdout) {
+    show_case(stdout, b"open after a wrong escape", 0, b"\x01\xDB\x02");
     show_case(
+        stdout,
         b"wrong escape, then a frame's bytes",
         0,
         b"\x11\xDB\x22\x00\x03\x00\x01\x02\xC0\x33\xC0",
     );
 }
 
-fn show_long() {
-    show_case(b"255 decoded bytes", 255, b"\xC0");
-    show_case(b"256 decoded bytes", 256, b"\xC0");
-    show_case(b"the 255th decoded byte escaped", 254, b"\xDB\xDC\xC0");
-}
-
-fn show_full() {
-    show_case(b"ESC at 255, open", 255, b"\xDB");
-    show_case(b"ESC at 255, then END", 255, b"\xDB\xC0");
-    show_case(b"ESC at 255, then DC", 255, b"\xDB\xDC\xC0");
-}
-
-fn show_too_long() {
-    show_case(b"ESC at 255, then another byte", 255, b"\xDB\xDE\xC0");
+fn show_long(stdout: Stdout) {
+    show_case(stdout, b"255 decoded bytes", 255, b"\xC0");
+    show_case(stdout, b"256 decoded bytes", 256, b"\xC0");
     show_case(
+        stdout,
+        b"the 255th decoded byte escaped",
+        254,
+        b"\xDB\xDC\xC0",
+    );
+}
+
+fn show_full(stdout: Stdout) {
+    show_case(stdout, b"ESC at 255, open", 255, b"\xDB");
+    show_case(stdout, b"ESC at 255, then END", 255, b"\xDB\xC0");
+    show_case(stdout, b"ESC at 255, then DC", 255, b"\xDB\xDC\xC0");
+}
+
+fn show_too_long(stdout: Stdout) {
+    show_case(
+        stdout,
+        b"ESC at 255, then another byte",
+        255,
+        b"\xDB\xDE\xC0",
+    );
+    show_case(
+        stdout,
         b"256 bytes, then a frame's bytes",
         256,
         b"\x00\x03\x00\x01\x02\xC0\x33\xC0",
     );
-    show_case(b"open after 256 bytes", 256, b"\x01");
+    show_case(stdout, b"open after 256 bytes", 256, b"\x01");
 }
 
-fn show_places() {
-    show_escaped(b"escapes before a wrong escape", 2, 1, b"\xDB\x00\x05\xC0");
+fn show_places(stdout: Stdout) {
     show_escaped(
+        stdout,
+        b"escapes before a wrong escape",
+        2,
+        1,
+        b"\xDB\x00\x05\xC0",
+    );
+    show_escaped(
+        stdout,
         b"escapes behind a wrong escape",
         0,
         1,
         b"\xDB\x07\xDB\xDC\xDB\xDB\xC0",
     );
-    show_escaped(b"ESC behind 255 escaped, then END", 255, 0, b"\xDB\xC0");
     show_escaped(
+        stdout,
+        b"ESC behind 255 escaped, then END",
+        255,
+        0,
+        b"\xDB\xC0",
+    );
+    show_escaped(
+        stdout,
         b"ESC behind 255 escaped, then another byte",
         255,
         0,
@@ -265,28 +298,36 @@ fn show_places() {
     );
 }
 
-fn show_long_places() {
-    show_escaped(b"255 decoded bytes, 100 escaped", 100, 155, b"\xC0");
-    show_escaped(b"255 decoded bytes, all escaped", 255, 0, b"\xC0");
-    show_escaped(b"256 decoded bytes, 100 escaped", 100, 155, b"\x01\xC0");
-    show_escaped(b"256 decoded bytes, all escaped", 256, 0, b"\xC0");
+fn show_long_places(stdout: Stdout) {
+    show_escaped(stdout, b"255 decoded bytes, 100 escaped", 100, 155, b"\xC0");
+    show_escaped(stdout, b"255 decoded bytes, all escaped", 255, 0, b"\xC0");
     show_escaped(
+        stdout,
+        b"256 decoded bytes, 100 escaped",
+        100,
+        155,
+        b"\x01\xC0",
+    );
+    show_escaped(stdout, b"256 decoded bytes, all escaped", 256, 0, b"\xC0");
+    show_escaped(
+        stdout,
         b"256 decoded bytes, all but the last escaped",
         255,
         0,
         b"\x01\xC0",
     );
     show_escaped(
+        stdout,
         b"256 decoded bytes, escapes behind",
         0,
         256,
         b"\xDB\xDC\xDB\xDD\xC0",
     );
-    show_escaped(b"open after 256 escaped bytes", 256, 0, b"\xDB");
+    show_escaped(stdout, b"open after 256 escaped bytes", 256, 0, b"\xDB");
 }
 
 // A lent record of any mode and count, in one call on some bytes.
-fn show_record(mode: Mode, count: usize, wire: &[u8]) {
+fn show_record(stdout: Stdout, mode: Mode, count: usize, wire: &[u8]) {
     let bytes = [0x55u8; line::LIMIT];
     let lent = Reading { bytes, count, mode };
     let mut page = [0u8; PAGE];
@@ -305,7 +346,7 @@ fn show_record(mode: Mode, count: usize, wire: &[u8]) {
     let after = answer.reading;
     let told = put_outcome(&mut page, reads, outcome, after);
     let end = put_reading(&mut page, told, after);
-    print(&page, end);
+    print(stdout, &page, end);
 }
 
 fn put_title(out: &mut [u8], word: &[u8], mode: Mode, count: usize) -> usize {
@@ -315,11 +356,11 @@ fn put_title(out: &mut [u8], word: &[u8], mode: Mode, count: usize) -> usize {
 }
 
 // The same count in every mode.
-fn show_modes(count: usize, wire: &[u8]) {
-    show_record(Mode::Plain, count, wire);
-    show_record(Mode::Escaped, count, wire);
-    show_record(skipping(Fault::WrongEscape, 7, 3), count, wire);
-    show_record(skipping(Fault::TooLong, 300, 255), count, wire);
+fn show_modes(stdout: Stdout, count: usize, wire: &[u8]) {
+    show_record(stdout, Mode::Plain, count, wire);
+    show_record(stdout, Mode::Escaped, count, wire);
+    show_record(stdout, skipping(Fault::WrongEscape, 7, 3), count, wire);
+    show_record(stdout, skipping(Fault::TooLong, 300, 255), count, wire);
 }
 
 // A record that skips for a fault at these places.
@@ -328,108 +369,114 @@ fn skipping(fault: Fault, wire: u16, decoded: u16) -> Mode {
     Mode::Skipping(FaultAt { fault, at })
 }
 
-fn show_counts(wire: &[u8]) {
-    show_modes(0, wire);
-    show_modes(3, wire);
-    show_modes(255, wire);
-    show_modes(256, wire);
-    show_modes(18446744073709551615, wire);
+fn show_counts(stdout: Stdout, wire: &[u8]) {
+    show_modes(stdout, 0, wire);
+    show_modes(stdout, 3, wire);
+    show_modes(stdout, 255, wire);
+    show_modes(stdout, 256, wire);
+    show_modes(stdout, 18446744073709551615, wire);
 }
 
 // Records that skip at the bounds of the possible places, and one beyond each, read up to an END.
-fn show_escape_bounds(wire: u16, decoded: u16) {
-    show_record(skipping(Fault::WrongEscape, wire, decoded), 0, b"\xC0");
+fn show_escape_bounds(stdout: Stdout, wire: u16, decoded: u16) {
+    show_record(
+        stdout,
+        skipping(Fault::WrongEscape, wire, decoded),
+        0,
+        b"\xC0",
+    );
 }
 
-fn show_long_bounds(wire: u16, decoded: u16) {
-    show_record(skipping(Fault::TooLong, wire, decoded), 0, b"\xC0");
+fn show_long_bounds(stdout: Stdout, wire: u16, decoded: u16) {
+    show_record(stdout, skipping(Fault::TooLong, wire, decoded), 0, b"\xC0");
 }
 
-fn show_first_bounds() {
-    show_escape_bounds(0, 0);
-    show_escape_bounds(1, 0);
-    show_escape_bounds(2, 0);
-    show_escape_bounds(3, 3);
-    show_escape_bounds(4, 3);
-    show_escape_bounds(7, 3);
-    show_escape_bounds(8, 3);
+fn show_first_bounds(stdout: Stdout) {
+    show_escape_bounds(stdout, 0, 0);
+    show_escape_bounds(stdout, 1, 0);
+    show_escape_bounds(stdout, 2, 0);
+    show_escape_bounds(stdout, 3, 3);
+    show_escape_bounds(stdout, 4, 3);
+    show_escape_bounds(stdout, 7, 3);
+    show_escape_bounds(stdout, 8, 3);
 }
 
-fn show_last_bounds() {
-    show_escape_bounds(255, 255);
-    show_escape_bounds(256, 255);
-    show_escape_bounds(511, 255);
-    show_escape_bounds(512, 255);
-    show_escape_bounds(257, 256);
-    show_escape_bounds(0, 65535);
-    show_escape_bounds(65535, 65535);
+fn show_last_bounds(stdout: Stdout) {
+    show_escape_bounds(stdout, 255, 255);
+    show_escape_bounds(stdout, 256, 255);
+    show_escape_bounds(stdout, 511, 255);
+    show_escape_bounds(stdout, 512, 255);
+    show_escape_bounds(stdout, 257, 256);
+    show_escape_bounds(stdout, 0, 65535);
+    show_escape_bounds(stdout, 65535, 65535);
 }
 
-fn show_256th_bounds() {
-    show_long_bounds(254, 255);
-    show_long_bounds(255, 255);
-    show_long_bounds(510, 255);
-    show_long_bounds(511, 255);
-    show_long_bounds(254, 254);
-    show_long_bounds(256, 256);
-    show_long_bounds(65535, 255);
+fn show_256th_bounds(stdout: Stdout) {
+    show_long_bounds(stdout, 254, 255);
+    show_long_bounds(stdout, 255, 255);
+    show_long_bounds(stdout, 510, 255);
+    show_long_bounds(stdout, 511, 255);
+    show_long_bounds(stdout, 254, 254);
+    show_long_bounds(stdout, 256, 256);
+    show_long_bounds(stdout, 65535, 255);
 }
 
 // Impossible places with bytes claimed.
-fn show_claimed_bounds(count: usize) {
-    show_record(skipping(Fault::WrongEscape, 8, 3), count, b"\xC0");
-    show_record(skipping(Fault::TooLong, 511, 255), count, b"\xC0");
+fn show_claimed_bounds(stdout: Stdout, count: usize) {
+    show_record(stdout, skipping(Fault::WrongEscape, 8, 3), count, b"\xC0");
+    show_record(stdout, skipping(Fault::TooLong, 511, 255), count, b"\xC0");
 }
 
 // A lent record of any mode and count, fed to a hub before any start: the bytes of P3 behind its first END.
-fn show_fed(mode: Mode, count: usize) {
+fn show_fed(stdout: Stdout, mode: Mode, count: usize) {
     let bytes = [0x55u8; line::LIMIT];
     let reading = Reading { bytes, count, mode };
     let mut table = [0u8; nodes::TABLE];
     let mut room = [transcript::FILLER; frame::ROOM];
     let wire = b"\x00\x03\x00\x01\x02\xC0";
     let fed = hub::feed_by_value(hub::first(), &mut table, reading, 0, wire, &mut room);
-    show_told(mode, count, fed, &room);
+    show_told(stdout, mode, count, fed, &room);
 }
 
-fn show_told(mode: Mode, count: usize, fed: FedByValue, room: &[u8]) {
+fn show_told(stdout: Stdout, mode: Mode, count: usize, fed: FedByValue, room: &[u8]) {
     let answer = fed.answer;
     let after = fed.reading;
     let mut page = [0u8; PAGE];
     let title = put_title(&mut page, &HUB, mode, count);
     let record = put_reading(&mut page, title, after);
     let end = transcript::feed_line(&mut page, record, answer, room);
-    print(&page, end);
+    print(stdout, &page, end);
 }
 
 // Records that the hub takes as emptied, and as skipping with none.
-fn show_hub() {
-    show_fed(Mode::Plain, 0);
-    show_fed(Mode::Plain, 256);
-    show_fed(Mode::Escaped, 256);
-    show_fed(skipping(Fault::WrongEscape, 7, 3), 3);
-    show_fed(skipping(Fault::TooLong, 300, 255), 256);
-    show_fed(skipping(Fault::WrongEscape, 8, 3), 0);
+fn show_hub(stdout: Stdout) {
+    show_fed(stdout, Mode::Plain, 0);
+    show_fed(stdout, Mode::Plain, 256);
+    show_fed(stdout, Mode::Escaped, 256);
+    show_fed(stdout, skipping(Fault::WrongEscape, 7, 3), 3);
+    show_fed(stdout, skipping(Fault::TooLong, 300, 255), 256);
+    show_fed(stdout, skipping(Fault::WrongEscape, 8, 3), 0);
 }
 
-fn main() {
-    show_short();
-    show_escapes();
-    show_wrong_escape();
-    show_long();
-    show_full();
-    show_too_long();
-    show_places();
-    show_long_places();
-    show_counts(b"");
-    show_counts(b"\xC0");
-    show_counts(b"\xDC\xC0");
-    show_first_bounds();
-    show_last_bounds();
-    show_256th_bounds();
-    show_claimed_bounds(1);
-    show_claimed_bounds(255);
-    show_claimed_bounds(256);
-    show_hub();
-    crate::old_bytes::show();
+fn main(rt: HostRuntime) {
+    let stdout = rt.stdout();
+    show_short(stdout);
+    show_escapes(stdout);
+    show_wrong_escape(stdout);
+    show_long(stdout);
+    show_full(stdout);
+    show_too_long(stdout);
+    show_places(stdout);
+    show_long_places(stdout);
+    show_counts(stdout, b"");
+    show_counts(stdout, b"\xC0");
+    show_counts(stdout, b"\xDC\xC0");
+    show_first_bounds(stdout);
+    show_last_bounds(stdout);
+    show_256th_bounds(stdout);
+    show_claimed_bounds(stdout, 1);
+    show_claimed_bounds(stdout, 255);
+    show_claimed_bounds(stdout, 256);
+    show_hub(stdout);
+    crate::old_bytes::show(stdout);
 }

@@ -5,25 +5,25 @@
 pub mod entries;
 
 use directory::{Entry, Found};
-use libc::STDOUT_FILENO;
+use std::io::{Print, Stdout};
 
 // Writes an entry's line, and answers whether it was taken.
-fn write_entry(entry: Entry) -> bool {
+fn write_entry(stdout: Stdout, entry: Entry) -> bool {
     let number = entry.number;
     let least = entry.least;
     let greatest = entry.greatest;
     let mut out = [0u8; lister::LINE];
     let end = crate::entries::entry_line(&mut out, 0, number, least, greatest);
-    io::write_all(STDOUT_FILENO, &out[0..end])
+    stdout.write_all(&out[0..end]).is_ok()
 }
 
-fn main() {
+fn main(rt: HostRuntime) {
     let mut place = 0;
     while place < directory::COUNT {
         let Found::Listed(entry) = directory::entry_at(place) else {
             return;
         };
-        if !write_entry(entry) {
+        if !write_entry(rt.stdout(), entry) {
             return;
         }
         place += 1;

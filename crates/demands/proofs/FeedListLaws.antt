@@ -12,7 +12,7 @@ use Rattle.feeds.specs.Serving.{in_pieces}
 use Rattle.feeds.proofs.SystemLaws.{own, told-final}
 use Rattle.feeds.proofs.Reach.{pieces_every}
 use Rattle.feeds.proofs.Runs.{lent_of, lent-entries}
-use Rattle.feeds.specs.Service.{Lent, Got, entry_of, world_of, record_for, left_by, entries_in, answers_in, used_in}
+use Rattle.feeds.specs.Service.{Lent, Got, entry_of, world_of, record_for, left_by, entries_in, used_in}
 use Rattle.feeds.proofs.ServiceLaws.{map-unmarked, run_answers, run_end}
 use Rattle.feeds.specs.Demand3.{Line, record_at, Without}
 use Rattle.feeds.proofs.Demand3.{own-taken, has_line}

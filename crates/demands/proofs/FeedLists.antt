@@ -3,7 +3,6 @@ use Rattle.std.specs.Prelude.{List}
 use Rattle.feeds.specs.Service as service
 use Rattle.feeds.specs.Service.{Lent, Got}
 use Rattle.rules.specs.Hub.{hub}
-use Rattle.rules.specs.Promises.{Feeds}
 use Rattle.rules.proofs.PromiseLaws.{feeds_promise}
 use Rattle.demands.specs.Steps.{Memory}
 use Rattle.demands.specs.FeedLists.{Run, stop, next, FeedList}

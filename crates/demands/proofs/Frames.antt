@@ -12,7 +12,6 @@ use Rattle.frame.specs.PlaceLaws.{refused_in_piece}
 use Rattle.frame.specs.JudgeLaws.{Accepted, judge-accepted, judge-frame, accepted-judge}
 use Rattle.frame.specs.Reader.{outcomes, final, plain, emptied, emptied_reading, step, taken, judged}
 use Rattle.frame.specs.ReaderLaws.{by_pieces_taken}
-use Rattle.feeds.specs.System.{told}
 use Rattle.feeds.specs.Sent.{frame_of}
 use Rattle.feeds.proofs.SentLaws.{outcomes_frames}
 use Rattle.feeds.specs.Service.{used_in, told_in}

@@ -6,7 +6,6 @@ use Rattle.std.proofs.lemmas.Bool.{false≢true, eqb-false}
 use Rattle.std.proofs.Math.Option.{Option, none, some}
 use Rattle.std.proofs.lemmas.List.{get_or-replicate}
 use Rattle.frame.specs.Frame.{Outcome, frame, refused}
-use Rattle.nodes.specs.Table as table
 use Rattle.sessions.specs.Sessions as sessions
 use Rattle.directory.specs.Directory.{directory}
 use Rattle.directory.specs.Lookup as lookup

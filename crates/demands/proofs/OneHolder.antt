@@ -5,7 +5,6 @@ use Rattle.std.proofs.Math.Bool.{true, false}
 use Rattle.std.proofs.Math.Option.{Option, none, some}
 use native.Mathlib.Omega.{arith}
 use Rattle.frame.specs.Frame.{Outcome, frame, refused}
-use Rattle.nodes.specs.Table as table
 use Rattle.sessions.specs.Sessions as sessions
 use Rattle.sessions.specs.Holders.{holders, close-holders, close_all-holders, mode_send-holders, finish-holders, left_by}
 use Rattle.directory.specs.Lookup as directory

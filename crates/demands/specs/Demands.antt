@@ -1,6 +1,6 @@
 -- Demands 1 and 2, and the accident behind them, of any calls of the host and the serial service that keep their promises, in any order and
 -- number, each on what the last one left (Steps). Words in quotes are the papers'. Demand 3 is said so in Demand3.
-use Rattle.std.specs.Prelude.{ℕ, ◌≤◌, ◌<◌, ◌≡◌, List, [], ◌++◌, map, true, not, length, take, drop, ltb}
+use Rattle.std.specs.Prelude.{ℕ, ◌≤◌, ◌<◌, ◌≡◌, List, [], ◌++◌, map, true, length, take, drop, ltb}
 use Rattle.std.proofs.Math.Option.{Option, none, some}
 use Rattle.frame.specs.declared.Written.{Written}
 use Rattle.frame.specs.declared.WrittenAt.{WrittenAt}
@@ -11,7 +11,7 @@ use Rattle.nodes.specs.Table.{table_size}
 use Rattle.frame.specs.Frame as packet
 use Rattle.frame.specs.Frame.{Outcome, max_data, wire}
 use Rattle.frame.specs.Reader.{also, outcomes, final, emptied, step, read, taken}
-use Rattle.feeds.specs.System.{refused, told, serve_if, call, error_reply}
+use Rattle.feeds.specs.System.{told, serve_if, error_reply}
 use Rattle.feeds.specs.Marks.{unmarked}
 use Rattle.feeds.specs.Serving.{replies_told, ServedAll, serve_all, told_all}
 use Rattle.feeds.specs.Service.{Lent, Got, world_of, record_for, Feeds, entries_in, results_in, answers_in, told_in}
@@ -19,7 +19,7 @@ use Rattle.feeds.specs.Serving.{lines_of}
 use Rattle.rules.specs.Hub.{first_hub, notice, short_room, refuse_if, Reply, hub}
 use Rattle.rules.specs.Answers.{FinishedSession}
 use Rattle.demands.specs.Invariants.{OneAtMost}
-use Rattle.demands.specs.Steps.{Memory, Step, start, finish, feed, Return, finished, fed, Made, feeds, Steps, refusal, refusal_told, is_refused, room_lent, room_back, record_lent, record_back}
+use Rattle.demands.specs.Steps.{Memory, Step, start, finish, feed, Return, finished, fed, Made, Steps, refusal, refusal_told, is_refused, room_lent, room_back, record_lent, record_back}
 use Rattle.sessions.specs.Search.{any as any_slot}
 use Rattle.sessions.specs.Sessions as sessions
 

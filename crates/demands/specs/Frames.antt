@@ -2,7 +2,7 @@
 use Rattle.std.specs.Prelude.{ℕ, ◌≤◌, ◌≡◌, List, [], ◌∷◌, ◌++◌, map, length, take, drop}
 use Rattle.std.proofs.Math.Option.{Option}
 use Rattle.frame.specs.Line.{written}
-use Rattle.frame.specs.Frame.{Outcome, frame, wire, max_data}
+use Rattle.frame.specs.Frame.{Outcome, max_data}
 use Rattle.frame.specs.declared.Written.{Written}
 use Rattle.frame.specs.Writer as writer
 use Rattle.frame.specs.Writer.{up_to, write, Writes}

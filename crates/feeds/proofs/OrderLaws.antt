@@ -1,8 +1,8 @@
 -- Lists of feeds on all lines: where each line uses the same bytes and the lines' outcomes come in the same order, all comes to the same.
-use Rattle.std.specs.Prelude.{ℕ, zero, suc, ◌≤◌, ◌<◌, ◌≡◌, Bool, true, false, cond, length, get_or, eqb, ltb}
+use Rattle.std.specs.Prelude.{ℕ, suc, ◌≤◌, ◌<◌, ◌≡◌, Bool, true, false, cond, length, get_or, eqb, ltb}
 use Rattle.std.proofs.Math.Path.{refl}
 use Rattle.std.proofs.Common.{sym, ap, ap₂, ◌∙◌, true≢false, arith, eq-eqb, ltb-true, ltb-false}
-use mathlib.Core.List.{List, [], ◌∷◌, map}
+use mathlib.Core.List.{List, [], ◌∷◌}
 use Rattle.std.proofs.Math.Option.{Option, none, some}
 use Rattle.frame.specs.Frame.{Outcome}
 use Rattle.frame.specs.Reader.{also, outcomes, State, emptied, final, step}

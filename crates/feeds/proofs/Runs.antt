@@ -1,5 +1,5 @@
 -- Every list of feeds can be run, whatever the hub: the promise of feed can be kept whatever is lent.
-use Rattle.std.specs.Prelude.{ℕ, ◌-◌, ◌≡◌, Bool, length, drop, replicate}
+use Rattle.std.specs.Prelude.{ℕ, ◌≡◌, Bool, length, drop, replicate}
 use Rattle.std.proofs.Math.Path.{refl, ap}
 use Rattle.std.proofs.Common.{sym, ◌∙◌}
 use mathlib.Core.List.{List, [], ◌∷◌, ◌++◌, map, append-nil, flatten}

@@ -5,7 +5,7 @@ use Rattle.std.specs.Prelude.{ℕ, ◌<◌, ◌≡◌, Bool, List, [], ◌∷◌
 use Rattle.line.specs.declared.Reading.{Reading}
 use Rattle.frame.specs.Line.{closed, piece_outcomes, written}
 use Rattle.frame.specs.Frame.{Refusal, Numbered, refused}
-use Rattle.frame.specs.Reader.{END, escape, outcomes, taken, emptied, emptied_reading, judged}
+use Rattle.frame.specs.Reader.{END, escape, taken, emptied, emptied_reading, judged}
 use Rattle.frame.specs.Damage.{Damage}
 use Rattle.feeds.specs.System.{System, error_reply}
 use Rattle.feeds.specs.Marks.{replies, marked, unmarked, nonempty}

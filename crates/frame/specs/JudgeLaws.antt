@@ -6,7 +6,7 @@ use Rattle.line.specs.Reader.{limit}
 use Rattle.line.specs.Pieces.{Bytes}
 use Rattle.frame.specs.Xor.{xor_all}
 use Rattle.frame.specs.XorLaws.{⊕-self, ⊕-cancel, xor_all_snoc}
-use Rattle.frame.specs.Frame.{Refusal, number, Numbered, low, longer, Outcome, frame, refused, max_data, around, body, framed, too_long, too_short, wrong_protocol, claimed, below_length, beyond_length, wrong_check, command_of, data_of, pass, judge}
+use Rattle.frame.specs.Frame.{Refusal, Numbered, low, longer, Outcome, frame, refused, max_data, around, body, framed, too_long, too_short, wrong_protocol, claimed, below_length, beyond_length, wrong_check, command_of, data_of, pass, judge}
 
 -- what the checks ask of a packet
 pub record Accepted (h : List ℕ) : Type 0 where

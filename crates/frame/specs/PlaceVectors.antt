@@ -1,7 +1,7 @@
 -- Places on packets: document 01's P8 to P11, lengths too large and too small, and escaped bytes before and at the place.
 use Rattle.std.specs.Prelude.{ℕ, ◌≡◌, refl, [], ◌∷◌, map, replicate}
 use Rattle.frame.specs.Xor.{◌⊕◌, xor_all}
-use Rattle.frame.specs.Frame.{places_at, wire_length, on_wire, byte_at, behind, escape, Outcome, frame, refused, too_long, too_short, wrong_protocol, below_length, beyond_length, wrong_check, judge}
+use Rattle.frame.specs.Frame.{places_at, wire_length, on_wire, byte_at, behind, escape, Outcome, refused, too_long, too_short, wrong_protocol, below_length, beyond_length, wrong_check, judge}
 
 -- refused n at w d, as the listing writes it
 abbrev refused_at : ℕ → ℕ → ℕ → Outcome

@@ -2,8 +2,14 @@
 // It stops where the input cannot be read or the output is not taken. The text is made by proved functions of `lister`.
 #![tactic(auto)]
 
-use libc::{STDIN_FILENO, STDOUT_FILENO};
 use line::Reading;
+use std::io::{Print, Read, Stdout};
+
+// Bytes that a read may give, and room for the lines that a call lists.
+const MUCH: usize = 65536;
+
+// Room for the last line.
+const PAGE: usize = 4096;
 
 // How the listing stands, and whether it goes on.
 #[derive(Clone, Copy)]
@@ -14,11 +20,11 @@ struct State {
 }
 
 // Writes the lines of some bytes.
-fn list_part(reading: Reading, left: u64, wire: &[u8]) -> State {
+fn list_part(stdout: Stdout, reading: Reading, left: u64, wire: &[u8]) -> State {
     let mut r = reading;
     let mut k = left;
     let mut at = 0;
-    let mut out = io::large_buffer();
+    let mut out = [0u8; MUCH];
     while at < wire.len() {
         let listed = lister::list(r, k, &wire[at..], &mut out);
         let used = listed.used;
@@ -27,7 +33,7 @@ fn list_part(reading: Reading, left: u64, wire: &[u8]) -> State {
         k = listed.left;
         r = next;
         at += used;
-        if !io::write_all(STDOUT_FILENO, &out[0..written]) {
+        if stdout.write_all(&out[0..written]).is_err() {
             return State {
                 reading: r,
                 left: k,
@@ -42,15 +48,15 @@ fn list_part(reading: Reading, left: u64, wire: &[u8]) -> State {
     }
 }
 
-// Writes the last line.
-fn finish(left: u64) {
-    let mut out = io::buffer();
+// Writes the last line. Nothing follows it, so it is all the same whether it was taken.
+fn finish(stdout: Stdout, left: u64) {
+    let mut out = [0u8; PAGE];
     let n = lister::last_line(&mut out, left);
-    io::write_all(STDOUT_FILENO, &out[0..n]);
+    let _ = stdout.write_all(&out[0..n]);
 }
 
 // Reads once. At the end of the input the last line is due.
-fn turn(state: State) -> State {
+fn turn(rt: HostRuntime, state: State) -> State {
     let reading = state.reading;
     let left = state.left;
     let stopped = State {
@@ -58,33 +64,29 @@ fn turn(state: State) -> State {
         left: left,
         going: false,
     };
-    let mut buffer = io::large_buffer();
-    let got = libc::read(STDIN_FILENO, &mut buffer);
-    if got < 0 {
-        return stopped;
+    let mut buffer = [0u8; MUCH];
+    match rt.stdin().read(&mut buffer) {
+        Ok(0) => {
+            finish(rt.stdout(), left);
+            stopped
+        }
+        Ok(n) => list_part(rt.stdout(), reading, left, &buffer[..n]),
+        Err(_) => stopped,
     }
-    if got == 0 {
-        finish(left);
-        return stopped;
-    }
-    let n = io::count(got, &buffer);
-    list_part(reading, left, &buffer[..n])
 }
 
-fn main() {
+fn main(rt: HostRuntime) {
     let mut state = State {
         reading: frame::emptied(),
         left: 0,
         going: true,
     };
     // Enough for any input: each turn but the last reads at least one byte.
-    let mut turns: u64 = 18446744073709551615;
-    while 0 < turns {
-        let next = turn(state);
+    for _ in 0..u64::MAX {
+        let next = turn(rt, state);
         state = next;
         if !state.going {
             return;
         }
-        turns -= 1;
     }
 }

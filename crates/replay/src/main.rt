@@ -7,8 +7,8 @@
 ghost use Rattle.std.specs.Prelude.{◌+◌, ◌≤◌, ◌<◌, ◌≡◌, false, length};
 ghost use Rattle.script.specs.Script.{longest};
 
-use libc::{STDIN_FILENO, STDOUT_FILENO};
 use script::{DATA_MOST, LONGEST, ROOM_MOST, TABLE_MOST};
+use std::io::{Print, Read, Stdout};
 use transcript::Run;
 
 // Bytes of an open line that are held: one more than the longest line has, so that a longer one is seen to be.
@@ -52,11 +52,11 @@ fn least(a: usize, b: usize) -> usize
 }
 
 // What there is of the output is written.
-fn flush(run: Run, number: u64, held: usize, out: &[u8]) -> Progress
+fn flush(stdout: Stdout, run: Run, number: u64, held: usize, out: &[u8]) -> Progress
     ensures { result.held ≡ held }
 {
     let n = least(run.at, out.len());
-    let going = io::write_all(STDOUT_FILENO, &out[0..n]);
+    let going = stdout.write_all(&out[0..n]).is_ok();
     let hub = run.hub;
     let readings = run.readings;
     let emptied = Run {
@@ -130,6 +130,7 @@ fn take(
 
 // The text has bytes up to `end`, of which the first `held` are those of the open line. What its lines answer is written.
 fn more(
+    stdout: Stdout,
     run: Run,
     first: u64,
     text: &mut [u8],
@@ -158,7 +159,7 @@ fn more(
             room,
             out,
         );
-        let written = flush(taken.run, taken.number, taken.held, out);
+        let written = flush(stdout, taken.run, taken.number, taken.held, out);
         all = written.run;
         number = written.number;
         rest = written.held;
@@ -174,16 +175,16 @@ fn more(
     progressed(all, number, 0, true)
 }
 
-// How many bytes are new behind those held: what was read; at the end of the input an LF, where an open line is held.
-fn added(got: isize, held: usize, text: &mut [u8]) -> usize
+// How many bytes are new behind those held: what was read, nothing where the input cannot be; at its end an LF, where an open line is held.
+fn added(got: Option<usize>, held: usize, text: &mut [u8]) -> usize
     requires { held < length text.old }
     ensures { held + result ≤ length text.old }
 {
-    if got < 0 {
+    let Some(n) = got else {
         return 0;
-    }
-    if 0 < got {
-        return io::count(got, &text[held..]);
+    };
+    if 0 < n {
+        return least(n, text.len() - held);
     }
     if held == 0 {
         return 0;
@@ -194,6 +195,7 @@ fn added(got: isize, held: usize, text: &mut [u8]) -> usize
 
 // Reads once. The end of the input is the last turn.
 fn turn(
+    rt: HostRuntime,
     run: Run,
     number: u64,
     held: usize,
@@ -206,20 +208,31 @@ fn turn(
     requires { (longest + 1 < length text.old) × (held ≤ longest + 1) }
     ensures { result.held ≤ longest + 1 }
 {
-    let got = libc::read(STDIN_FILENO, &mut text[held..]);
+    let got = rt.stdin().read(&mut text[held..]).ok();
     let n = added(got, held, text);
     if n == 0 {
         return progressed(run, number, 0, false);
     }
-    let next = more(run, number, text, held, held + n, table, decoded, room, out);
-    if 0 < got {
+    let next = more(
+        rt.stdout(),
+        run,
+        number,
+        text,
+        held,
+        held + n,
+        table,
+        decoded,
+        room,
+        out,
+    );
+    if got != Some(0) {
         return next;
     }
     let after = next.run;
     progressed(after, next.number, 0, false)
 }
 
-fn main() {
+fn main(rt: HostRuntime) {
     let mut table = [0u8; TABLE_MOST];
     let mut text = [0u8; TEXT];
     let mut decoded = [0u8; DATA_MOST];
@@ -229,9 +242,9 @@ fn main() {
     let mut number = 1;
     let mut held = 0;
     // Each turn reads at least a byte: no input has more.
-    let mut turns: u64 = 18446744073709551615;
-    while 0 < turns {
+    for _ in 0..u64::MAX {
         let next = turn(
+            rt,
             run,
             number,
             held,
@@ -247,6 +260,5 @@ fn main() {
         if !next.going {
             return;
         }
-        turns -= 1;
     }
 }

@@ -1,6 +1,6 @@
 -- What the hub writes are frames as document 01 has them sent: END, the escaped frame, END, one behind another.
 use Rattle.std.specs.Prelude.{ℕ, ◌≤◌, ◌≡◌, List, [], ◌∷◌, length}
-use Rattle.frame.specs.Frame.{frame, framed, max_data}
+use Rattle.frame.specs.Frame.{framed, max_data}
 use Rattle.frame.specs.JudgeLaws.{framed-accepted}
 use Rattle.feeds.specs.Sent.{Sent, sent}
 

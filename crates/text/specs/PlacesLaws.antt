@@ -1,5 +1,5 @@
 -- How long the words of two places are.
-use Rattle.std.specs.Prelude.{ℕ, ◌+◌, ◌^◌, ◌≤◌, ◌<◌, ◌≡◌, length}
+use Rattle.std.specs.Prelude.{◌+◌, ◌^◌, ◌≤◌, ◌<◌, ◌≡◌, length}
 use Rattle.std.proofs.Common.{arith, length-append}
 use Rattle.line.specs.declared.Places.{Places}
 use Rattle.text.specs.Text.{ascii, decimal}

@@ -11,7 +11,6 @@ use Rattle.frame.specs.Line.{limit}
 use Rattle.frame.specs.Answers as outcome
 use Rattle.frame.specs.declared.FrameOutcome.{FrameOutcome as Given}
 use Rattle.frame.specs.declared.FrameOutcome.TheVariants as given
-use Rattle.feeds.specs.System as system
 use Rattle.feeds.specs.Service.{length_of, called}
 use Rattle.feeds.proofs.ServiceLaws.{call_length, refused_untouched}
 use Rattle.sessions.specs.Sessions as sessions
@@ -23,7 +22,6 @@ use Rattle.rules.specs.declared.CallAnswer.{CallAnswer}
 use Rattle.rules.specs.declared.CallAnswer.TheVariants as call
 use Rattle.rules.specs.declared.FinishAnswer.{FinishAnswer}
 use Rattle.rules.specs.declared.FinishAnswer.TheVariants as finish
-use Rattle.rules.specs.declared.Finished.{Finished}
 use Rattle.rules.specs.declared.FeedAnswer.{FeedAnswer}
 use Rattle.rules.specs.declared.FeedAnswer.TheVariants as feed
 use Rattle.rules.specs.Answers.{number, refusal_of, answer_of}

@@ -19,7 +19,7 @@ use Rattle.line.specs.Answers as line_answers
 use Rattle.frame.specs.Frame as Frame
 use Rattle.frame.specs.Frame.{frame, head, around, framed, judge}
 use Rattle.frame.specs.Reader.{State, taken_as, verdict, read}
-use Rattle.frame.specs.Answers.{Judges, told, Whole, answer_of, Answers}
+use Rattle.frame.specs.Answers.{Judges, answer_of, Answers}
 use Rattle.frame.specs.ReaderLaws.{judged_call, read-judged}
 use Rattle.frame.specs.Judgements.{outcome_of, Judging}
 

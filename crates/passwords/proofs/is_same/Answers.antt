@@ -1,10 +1,8 @@
-use Prim.Native.Nat.{◌-◌, ◌≤◌}
 use mathlib.Core.Path.{◌≡◌, refl, sym, ◌∙◌}
-use mathlib.Core.Bool.{true, cond, ◌&&◌}
 use native.Mathlib.Omega.{arith}
-use lib.ListN.{length, drop}
+use lib.ListN.{length}
 use borrow.Author.Rules.{rules}
-use Rattle.passwords.specs.Passwords.{password_size, is_same}
+use Rattle.passwords.specs.Passwords.{password_size}
 use Rattle.passwords.specs.PasswordLaws.{is_same_more, is_same_end}
 use Rattle.passwords.proofs.is_same.Goals as goal
 

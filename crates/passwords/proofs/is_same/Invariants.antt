@@ -1,11 +1,8 @@
 use Prim.Native.Nat.{◌-◌, ◌≤◌}
-use mathlib.Core.Path.{◌≡◌, refl, sym, ◌∙◌}
+use mathlib.Core.Path.{◌≡◌}
 use mathlib.Core.Bool.{true, cond, ◌&&◌}
-use native.Mathlib.Omega.{arith}
-use lib.ListN.{length, drop}
-use borrow.Author.Rules.{rules}
+use lib.ListN.{drop}
 use Rattle.passwords.specs.Passwords.{password_size, is_same}
-use Rattle.passwords.specs.PasswordLaws.{is_same_more, is_same_end}
 use Rattle.passwords.proofs.is_same.Given as goal
 
 -- The bytes before i are compared; where no zero was among them, the rest decides too.

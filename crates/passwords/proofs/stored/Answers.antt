@@ -1,11 +1,8 @@
-use Prim.Native.Nat.{◌-◌, ◌≤◌}
 use mathlib.Core.Path.{◌≡◌, refl, sym, ◌∙◌}
-use mathlib.Core.List.{◌++◌}
-use mathlib.Core.Bool.{cond}
 use native.Mathlib.Omega.{arith}
-use lib.ListN.{length, take, drop, replicate, length-set}
+use lib.ListN.{length, length-set}
 use borrow.Author.Rules.{rules}
-use Rattle.passwords.specs.Passwords.{password_size, stored}
+use Rattle.passwords.specs.Passwords.{password_size}
 use Rattle.passwords.specs.PasswordLaws.{stored_more, stored_end}
 use Rattle.passwords.proofs.stored.Goals as goal
 

@@ -1,12 +1,9 @@
 use Prim.Native.Nat.{◌-◌, ◌≤◌}
-use mathlib.Core.Path.{◌≡◌, refl, sym, ◌∙◌}
+use mathlib.Core.Path.{◌≡◌}
 use mathlib.Core.List.{◌++◌}
 use mathlib.Core.Bool.{cond}
-use native.Mathlib.Omega.{arith}
-use lib.ListN.{length, take, drop, replicate, length-set}
-use borrow.Author.Rules.{rules}
+use lib.ListN.{length, take, drop, replicate}
 use Rattle.passwords.specs.Passwords.{password_size, stored}
-use Rattle.passwords.specs.PasswordLaws.{stored_more, stored_end}
 use Rattle.passwords.proofs.stored.Given as goal
 
 -- The first i bytes are as they are stored; behind a zero there are zeros only.

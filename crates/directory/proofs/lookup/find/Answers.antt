@@ -1,12 +1,8 @@
-use Prim.Native.Nat.{◌-◌, ◌≤◌}
-use mathlib.Core.Path.{◌≡◌, refl, sym, ◌∙◌}
+use mathlib.Core.Path.{refl, sym, ◌∙◌}
 use native.Mathlib.Numerals.{add-one}
 use native.Mathlib.Omega.{arith}
-use lib.ListN.{length, drop}
-use borrow.Author.Rules.{rules}
 use borrow.Author.Tests.{eq-eqb, ne_eqb}
 use Rattle.directory.specs.Directory.{directory}
-use Rattle.directory.specs.Lookup.{find}
 use Rattle.directory.specs.LookupLaws.{entry_there, find_on, find_found, find_end}
 use Rattle.directory.specs.DirectoryLaws.{directory-count}
 use Rattle.directory.proofs.lookup.find.Goals as goal

@@ -1,7 +1,6 @@
 use mathlib.Core.Path.{◌≡◌, sym, ap, ◌∙◌}
 use mathlib.Core.Bool.{cond}
 use mathlib.Core.Option.{none, some}
-use borrow.Author.Rules.{rules}
 use borrow.Author.Tests.{le-leb, lt-leb}
 use Rattle.directory.specs.Lookup.{in_range, frame_error, verdict_of, verdict, told}
 use Rattle.directory.specs.DirectoryLaws.{verdict_found}

@@ -13,7 +13,6 @@ use Rattle.frame.specs.Frame.{decoded_at, byte_at, behind, number, Outcome, fram
 use Rattle.frame.specs.JudgeLaws.{framed_back}
 use Rattle.frame.specs.Answers.{Judges}
 use Rattle.frame.specs.Judgements.{refused_at}
-use borrow.Author.Rules.{rules}
 use Rattle.frame.proofs.checks.judge.Goals as goal
 
 -- a refusal at the decoded place d

@@ -10,7 +10,6 @@ use Rattle.frame.specs.declared.Judged.{Judged}
 use Rattle.frame.specs.declared.Judged.TheVariants.{Refused}
 use Rattle.frame.specs.Frame.{places_at, wire_length, on_wire, byte_at}
 use Rattle.frame.specs.Judgements.{refused_at}
-use borrow.Author.Rules.{rules}
 use Rattle.frame.proofs.checks.refused.Goals as goal
 
 placed-most : (h : List ℕ) (d e : ℕ) → d ≤ length h → length (take (d - 0) (drop 0 h)) + e ≡ wire_length (take (d - 0) (drop 0 h)) → d + e ≤ 2 * d

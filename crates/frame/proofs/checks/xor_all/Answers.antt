@@ -1,11 +1,10 @@
-use Prim.Native.Nat.{ℕ, ◌+◌, ◌≤◌, ◌<◌, ◌-◌}
+use Prim.Native.Nat.{ℕ, ◌+◌, ◌<◌}
 use mathlib.Core.Path.{◌≡◌, refl, sym, ap, ◌∙◌}
 use mathlib.Core.List.{List}
 use native.Mathlib.Numerals.{add-one}
 use native.Mathlib.Omega.{arith}
 use lib.ListN.{length, take, get_or}
 use lib.Seq.{take_all, take-suc}
-use borrow.Author.Rules.{rules}
 use Rattle.frame.specs.Xor.{◌⊕◌, xor_all}
 use Rattle.frame.specs.XorLaws.{⊕-zero, xor_all_append}
 use Rattle.frame.proofs.checks.xor_all.Goals as goal

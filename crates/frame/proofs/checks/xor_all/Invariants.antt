@@ -1,13 +1,7 @@
-use Prim.Native.Nat.{ℕ, ◌+◌, ◌≤◌, ◌<◌, ◌-◌}
-use mathlib.Core.Path.{◌≡◌, refl, sym, ap, ◌∙◌}
-use mathlib.Core.List.{List}
-use native.Mathlib.Numerals.{add-one}
-use native.Mathlib.Omega.{arith}
-use lib.ListN.{length, take, get_or}
-use lib.Seq.{take_all, take-suc}
-use borrow.Author.Rules.{rules}
-use Rattle.frame.specs.Xor.{◌⊕◌, xor_all}
-use Rattle.frame.specs.XorLaws.{⊕-zero, xor_all_append}
+use Prim.Native.Nat.{◌≤◌, ◌-◌}
+use mathlib.Core.Path.{◌≡◌}
+use lib.ListN.{length, take}
+use Rattle.frame.specs.Xor.{xor_all}
 use Rattle.frame.proofs.checks.xor_all.Given as goal
 
 -- x is the exclusive or of the first i bytes; each turn takes one more.

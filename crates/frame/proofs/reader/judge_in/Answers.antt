@@ -9,7 +9,6 @@ use Rattle.frame.specs.Frame.{Refusal, refused}
 use Rattle.frame.specs.Reader.{verdict}
 use Rattle.frame.specs.AnswerLaws.{fault_refusal}
 use Rattle.frame.proofs.reader.Laws.{judging}
-use borrow.Author.Rules.{rules}
 use Rattle.frame.proofs.reader.judge_in.Goals as goal
 
 pub slice_bounds-judge-end : goal.slice_bounds-judge-end

@@ -1,4 +1,3 @@
-use borrow.Author.Rules.{rules}
 use Rattle.frame.proofs.reader.outcome_of.Goals as goal
 
 pub returns-in-Frame : goal.returns-in-Frame

@@ -1,5 +1,4 @@
 use Rattle.frame.proofs.reader.Laws.{answered}
-use borrow.Author.Rules.{rules}
 use Rattle.frame.proofs.reader.read_in.Goals as goal
 
 pub returns : goal.returns

@@ -1,5 +1,4 @@
 use mathlib.Core.Path.{refl, ◌∙◌}
-use borrow.Author.Rules.{rules}
 use Rattle.frame.proofs.view.places_of.Goals as goal
 
 pub returns-in-Frame : goal.returns-in-Frame

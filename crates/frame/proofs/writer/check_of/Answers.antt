@@ -1,7 +1,6 @@
 use mathlib.Core.Path.{sym}
 use Rattle.frame.specs.Xor.{◌⊕◌}
 use Rattle.frame.specs.WireLaws.{check-bytes}
-use borrow.Author.Rules.{rules}
 use Rattle.frame.proofs.writer.check_of.Goals as goal
 
 pub returns : goal.returns

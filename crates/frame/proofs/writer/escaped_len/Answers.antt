@@ -1,7 +1,6 @@
 use native.Mathlib.Omega.{arith}
 use Rattle.line.specs.WireLaws.{escape_short}
 use Rattle.line.specs.Places.{wire_length}
-use borrow.Author.Rules.{rules}
 use Rattle.frame.proofs.writer.escaped_len.Goals as goal
 
 pub overflow_add-result : goal.overflow_add-result

@@ -4,7 +4,6 @@ use lib.ListN.{length}
 use borrow.Author.Tests.{le-leb}
 use Rattle.frame.specs.Frame.{wire}
 use Rattle.frame.specs.WireLaws.{wire_short}
-use borrow.Author.Rules.{rules}
 use Rattle.frame.proofs.writer.fits.Goals as goal
 
 pub returns-then-payload-space : goal.returns-then-payload-space

@@ -8,7 +8,6 @@ use Rattle.line.specs.Places.{wire_length}
 use Rattle.line.specs.WireLaws.{escape_short}
 use Rattle.frame.specs.Frame.{head_of}
 use Rattle.frame.specs.WireLaws.{head-length}
-use borrow.Author.Rules.{rules}
 use Rattle.frame.proofs.writer.head_len.Goals as goal
 
 pub overflow_add-result : goal.overflow_add-result

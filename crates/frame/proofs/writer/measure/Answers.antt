@@ -1,7 +1,6 @@
 use mathlib.Core.Path.{ap}
 use borrow.Author.Tests.{lt-ltb, le-ltb}
 use Rattle.frame.specs.Writer.{up_to, measured}
-use borrow.Author.Rules.{rules}
 use Rattle.frame.proofs.writer.measure.Goals as goal
 
 pub returns-then-payload-gt-DATA : goal.returns-then-payload-gt-DATA

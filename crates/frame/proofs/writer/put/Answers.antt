@@ -3,7 +3,6 @@ use native.Mathlib.Numerals.{add-one}
 use native.Mathlib.Omega.{arith}
 use lib.ListN.{length-set}
 use Rattle.line.specs.WireLaws.{escape_end, escape_esc, escape-plain}
-use borrow.Author.Rules.{rules}
 use Rattle.frame.proofs.writer.put.Goals as goal
 
 pub bounds-room-at : goal.bounds-room-at

@@ -6,7 +6,6 @@ use Rattle.memory.specs.Wrote.{Wrote}
 use Rattle.memory.specs.WroteLaws.{one, then, kept}
 use Rattle.line.specs.Wire.{escape}
 use Rattle.frame.specs.WireLaws.{head_parts, head-length}
-use borrow.Author.Rules.{rules}
 use Rattle.frame.proofs.writer.put_head.Goals as goal
 
 pub bounds-room-start : goal.bounds-room-start

@@ -9,7 +9,6 @@ use Rattle.line.specs.Wire.{END, escape}
 use Rattle.frame.specs.Frame.{head_of}
 use Rattle.frame.specs.Writer.{check}
 use Rattle.frame.specs.WireLaws.{wire_parts, wire-length}
-use borrow.Author.Rules.{rules}
 use Rattle.frame.proofs.writer.put_wire.Goals as goal
 
 pub bounds-room-start : goal.bounds-room-start

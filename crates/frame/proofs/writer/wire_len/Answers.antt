@@ -8,7 +8,6 @@ use Rattle.line.specs.Places.{wire_length}
 use Rattle.frame.specs.Frame.{wire}
 use Rattle.frame.specs.Writer.{check, room_for_any}
 use Rattle.frame.specs.WireLaws.{wire-length, wire_fits}
-use borrow.Author.Rules.{rules}
 use Rattle.frame.proofs.writer.wire_len.Goals as goal
 
 pub overflow_add-result : goal.overflow_add-result

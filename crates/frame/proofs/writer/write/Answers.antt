@@ -4,11 +4,10 @@ use mathlib.Core.List.{List}
 use native.Mathlib.Nat.{zero-add}
 use native.Mathlib.Omega.{arith}
 use lib.ListN.{length}
-use borrow.Author.Tests.{lt-ltb, le-ltb, leb-true, leb-false, not-true, not-false}
+use borrow.Author.Tests.{lt-ltb, le-ltb, leb-true, leb-false}
 use Rattle.memory.specs.WroteLaws.{front}
 use Rattle.frame.specs.Frame.{wire}
 use Rattle.frame.specs.Writer.{up_to, write}
-use borrow.Author.Rules.{rules}
 use Rattle.frame.proofs.writer.write.Goals as goal
 
 pub returns-then-payload-gt-DATA : goal.returns-then-payload-gt-DATA

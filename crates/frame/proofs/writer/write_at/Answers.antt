@@ -4,10 +4,9 @@ use mathlib.Core.List.{List}
 use native.Mathlib.Omega.{arith}
 use lib.ListN.{length}
 use lib.Seq.{sets-eq}
-use borrow.Author.Tests.{lt-ltb, le-ltb, leb-true, leb-false, not-true, not-false}
+use borrow.Author.Tests.{lt-ltb, le-ltb, leb-true, leb-false}
 use Rattle.frame.specs.Frame.{wire}
 use Rattle.frame.specs.Writer.{up_to, write_at}
-use borrow.Author.Rules.{rules}
 use Rattle.frame.proofs.writer.write_at.Goals as goal
 
 pub returns-then-payload-gt-DATA : goal.returns-then-payload-gt-DATA

@@ -1,4 +1,3 @@
-use borrow.Author.Rules.{rules}
 use Rattle.hub.proofs.closing.closed_line.Goals as goal
 
 pub returns : goal.returns

@@ -6,7 +6,6 @@ use Rattle.replies.specs.ReplyLaws.{write_all_done, write_all_refused}
 use Rattle.hub.proofs.host.Laws.{finish_not_open, finish_short, finish-done}
 use native.Mathlib.Omega.{arith}
 use mathlib.Core.Path.{sym, ap, ◌∙◌}
-use borrow.Author.Rules.{rules}
 use Rattle.hub.proofs.host.finish.Goals as goal
 
 pub returns-in-NotOpen : goal.returns-in-NotOpen

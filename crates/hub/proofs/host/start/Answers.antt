@@ -4,7 +4,6 @@ use borrow.Author.Tests.{eq-eqb, ne_eqb}
 use Rattle.memory.specs.WroteLaws.{sets-whole}
 use Rattle.passwords.specs.Passwords.{stored}
 use Rattle.rules.specs.Hub.{password_size}
-use borrow.Author.Rules.{rules}
 use Rattle.hub.proofs.host.start.Goals as goal
 
 pub returns-then-table-ne-TABLE : goal.returns-then-table-ne-TABLE

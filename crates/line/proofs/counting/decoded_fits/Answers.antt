@@ -1,6 +1,5 @@
 use mathlib.Core.Path.{refl}
 use Rattle.line.specs.Reachable.{decoded_fits}
-use borrow.Author.Rules.{rules}
 use Rattle.line.proofs.counting.decoded_fits.Goals as goal
 
 pub returns-in-WrongEscape : goal.returns-in-WrongEscape

@@ -7,7 +7,6 @@ use lib.Seq.{take_all}
 use Rattle.line.specs.Wire.{escape}
 use Rattle.line.specs.PlaceLaws.{wire_length_least, wire_length_most, wire_length_more}
 use Rattle.line.specs.Places.{wire_length}
-use borrow.Author.Rules.{rules}
 use Rattle.line.proofs.counting.escapes.Goals as goal
 
 -- a byte takes one wire byte or two

@@ -1,13 +1,7 @@
-use Prim.Native.Nat.{ℕ, ◌+◌, ◌-◌, ◌≤◌, ◌<◌}
-use mathlib.Core.Path.{◌≡◌, refl, ap}
-use mathlib.Core.List.{List, [], ◌∷◌}
-use native.Mathlib.Omega.{arith}
-use lib.ListN.{length, take, get_or, length-take}
-use lib.Seq.{take_all}
-use Rattle.line.specs.Wire.{escape}
-use Rattle.line.specs.PlaceLaws.{wire_length_least, wire_length_most, wire_length_more}
+use Prim.Native.Nat.{◌+◌, ◌-◌, ◌≤◌}
+use mathlib.Core.Path.{◌≡◌}
+use lib.ListN.{length, take}
 use Rattle.line.specs.Places.{wire_length}
-use borrow.Author.Rules.{rules}
 use Rattle.line.proofs.counting.escapes.Given as goal
 
 abbrev pub invariant-loop-i : goal.invariant-loop-i

@@ -9,7 +9,6 @@ use Rattle.line.specs.Places.{FaultAt, places_at, wire_length, behind, behind_es
 use Rattle.line.specs.Step.{fault_behind}
 use Rattle.line.specs.PlaceLaws.{wire_length_most, wire_length_front}
 use Rattle.line.specs.Reader.{limit, wrong_escape, too_long}
-use borrow.Author.Rules.{rules}
 use Rattle.line.proofs.counting.fault_behind.Goals as goal
 
 escape-at : (bs : List ℕ) (n w : ℕ) → length bs ≡ limit → n ≤ limit → w ≡ wire_length (take n bs) → ◌≡◌ {A = FaultAt} (record { fault = WrongEscape; at = places_at (w + 1) n }) (fault_behind WrongEscape (take n bs))

@@ -1,15 +1,14 @@
 use Prim.Native.Nat.{◌≤◌}
 use mathlib.Core.Path.{◌≡◌, sym, ◌∙◌}
-use mathlib.Core.Bool.{Bool, true, false}
+use mathlib.Core.Bool.{true, false}
 use native.Mathlib.Omega.{arith}
-use borrow.Author.Tests.{leb-true, eqb-true, not-true, not-false}
+use borrow.Author.Tests.{leb-true, eqb-true}
 use Rattle.line.specs.declared.Fault.{Fault}
 use Rattle.line.specs.declared.Fault.TheVariants.{WrongEscape, TooLong}
 use Rattle.line.specs.Places.{DecodedPlace, FaultAt}
 use Rattle.line.specs.Reader.{limit}
 use Rattle.line.specs.Reachable.{decoded_fits, least_wire, most_wire, possible}
 use Rattle.line.specs.Step.{between}
-use borrow.Author.Rules.{rules}
 use Rattle.line.proofs.counting.is_possible.Goals as goal
 
 -- a decoded place that does not fit, and one that does: the wire place lies between its bounds

@@ -1,5 +1,4 @@
 use mathlib.Core.Path.{refl}
-use borrow.Author.Rules.{rules}
 use Rattle.line.proofs.counting.most_wire.Goals as goal
 
 pub returns-in-WrongEscape : goal.returns-in-WrongEscape

@@ -1,9 +1,4 @@
-use native.Mathlib.Omega.{arith}
-use Prim.Native.Nat.{◌+◌, ◌-◌}
-use lib.ListN.{length}
-use borrow.Author.Rules.{rules}
 use Rattle.line.specs.declared.Mode.TheVariants.{Plain}
-use Rattle.line.specs.Step.{Runs}
 use Rattle.line.proofs.reader.Loop.{runs_none, runs_more}
 use Rattle.line.proofs.reader.copy_run.Goals as goal
 

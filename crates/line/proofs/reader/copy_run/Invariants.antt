@@ -1,10 +1,7 @@
-use native.Mathlib.Omega.{arith}
 use Prim.Native.Nat.{◌+◌, ◌-◌}
 use lib.ListN.{length}
-use borrow.Author.Rules.{rules}
 use Rattle.line.specs.declared.Mode.TheVariants.{Plain}
 use Rattle.line.specs.Step.{Runs}
-use Rattle.line.proofs.reader.Loop.{runs_none, runs_more}
 use Rattle.line.proofs.reader.copy_run.Given as goal
 
 -- What the bytes stored so far promise is what the function promises; one more byte that goes as it is keeps it.

@@ -1,5 +1,4 @@
 use Rattle.line.proofs.reader.Loop.{runs_none}
-use borrow.Author.Rules.{rules}
 use Rattle.line.proofs.reader.plain_run.Goals as goal
 
 pub returns-in-Plain : goal.returns-in-Plain

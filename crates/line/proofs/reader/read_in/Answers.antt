@@ -1,16 +1,15 @@
-use Prim.Native.Nat.{ℕ, ◌+◌, ◌-◌, ◌≤◌, ◌<◌}
+use Prim.Native.Nat.{ℕ, ◌+◌, ◌≤◌, ◌<◌}
 use mathlib.Core.Path.{◌≡◌, refl, sym, ap, ◌∙◌}
 use mathlib.Core.List.{List}
 use mathlib.Core.Option.{none}
 use native.Mathlib.Omega.{arith}
 use lib.ListN.{length, take, drop, get_or}
 use lib.Seq.{length-take-le}
-use borrow.Author.Rules.{rules}
 use Rattle.line.specs.declared.step.Action.{Action}
 use Rattle.line.specs.Scan.{ahead}
 use Rattle.line.specs.Places.{FaultAt}
-use Rattle.line.specs.Reader.{limit, State, skipping, emptied, step, read}
-use Rattle.line.specs.Answers.{at, taken_as, Clear}
+use Rattle.line.specs.Reader.{State, skipping, emptied, step, read}
+use Rattle.line.specs.Answers.{at, taken_as}
 use Rattle.line.specs.AnswerLaws.{taken_clear, clear_reachable}
 use Rattle.line.specs.Reachable.{Possible}
 use Rattle.line.specs.ReachableLaws.{step-possible}

@@ -1,7 +1,3 @@
-use Prim.Native.Nat.{◌+◌, ◌-◌}
-use lib.ListN.{length}
-use borrow.Author.Rules.{rules}
-use Rattle.line.specs.Step.{Skips}
 use Rattle.line.proofs.reader.Loop.{skips_none, skips_more}
 use Rattle.line.proofs.reader.skip_run.Goals as goal
 

@@ -1,8 +1,6 @@
 use Prim.Native.Nat.{◌+◌, ◌-◌}
 use lib.ListN.{length}
-use borrow.Author.Rules.{rules}
 use Rattle.line.specs.Step.{Skips}
-use Rattle.line.proofs.reader.Loop.{skips_none, skips_more}
 use Rattle.line.proofs.reader.skip_run.Given as goal
 
 -- What the bytes skipped so far promise is what the function promises; one more byte that is no END keeps it.

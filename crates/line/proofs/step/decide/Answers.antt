@@ -1,7 +1,6 @@
 use mathlib.Core.Path.{◌∙◌}
 use borrow.Author.Tests.{eq-eqb, ne_eqb}
 use Rattle.line.specs.Reader.{step, inner, close, wrong_escape}
-use borrow.Author.Rules.{rules}
 use Rattle.line.proofs.step.decide.Goals as goal
 
 pub returns-then-b-eq-END : goal.returns-then-b-eq-END

@@ -1,7 +1,5 @@
 use mathlib.Core.Path.{refl, sym, ◌∙◌}
-use borrow.Author.Tests.{not-true, not-false}
 use Rattle.line.specs.ReachableLaws.{possible-true}
-use borrow.Author.Rules.{rules}
 use Rattle.line.proofs.step.skipping_at.Goals as goal
 
 pub returns-then-not-is_possible : goal.returns-then-not-is_possible

@@ -1,7 +1,6 @@
 use mathlib.Core.Path.{refl, ◌∙◌}
 use native.Mathlib.Omega.{arith}
 use borrow.Author.Tests.{lt-ltb, le-ltb}
-use borrow.Author.Rules.{rules}
 use Rattle.line.proofs.step.taken_at.Goals as goal
 
 pub returns-then-count-gt-LIMIT : goal.returns-then-count-gt-LIMIT

@@ -1,4 +1,3 @@
-use borrow.Author.Rules.{rules}
 use Rattle.line.proofs.step.taken_cursor.Goals as goal
 
 pub returns : goal.returns

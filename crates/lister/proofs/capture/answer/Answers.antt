@@ -1,5 +1,4 @@
 use native.Mathlib.Nat.{sub-zero}
-use borrow.Author.Rules.{rules}
 use Rattle.lister.proofs.capture.answer.Goals as goal
 
 pub returns : goal.returns

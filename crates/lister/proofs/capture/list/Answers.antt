@@ -1,12 +1,10 @@
-use Prim.Native.Nat.{◌-◌}
 use mathlib.Core.Path.{◌≡◌, sym}
 use mathlib.Core.Logic.{inl, inr}
 use native.Mathlib.Omega.{arith}
-use lib.ListN.{length}
 use borrow.Author.Rules.{rules}
 use Rattle.memory.specs.WroteLaws.{kept}
 use Rattle.frame.specs.Reader.{taken_as, taken}
-use Rattle.lister.specs.ListingLaws.{takes_state, MoreUsed, more_used, Going, going_none, going_more, going_lists}
+use Rattle.lister.specs.ListingLaws.{takes_state, MoreUsed, more_used, going_none, going_more, going_lists}
 use Rattle.lister.proofs.capture.list.Goals as goal
 
 pub loop-at-init : goal.loop-at-init

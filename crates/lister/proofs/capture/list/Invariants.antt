@@ -1,12 +1,7 @@
 use Prim.Native.Nat.{◌-◌}
-use mathlib.Core.Path.{◌≡◌, sym}
-use mathlib.Core.Logic.{inl, inr}
-use native.Mathlib.Omega.{arith}
 use lib.ListN.{length}
-use borrow.Author.Rules.{rules}
-use Rattle.memory.specs.WroteLaws.{kept}
-use Rattle.frame.specs.Reader.{taken_as, taken}
-use Rattle.lister.specs.ListingLaws.{takes_state, MoreUsed, more_used, Going, going_none, going_more, going_lists}
+use Rattle.frame.specs.Reader.{taken_as}
+use Rattle.lister.specs.ListingLaws.{Going}
 use Rattle.lister.proofs.capture.list.Given as goal
 
 -- What was used and written so far is what the definition gives of those bytes. A call on the rest uses at least one byte more, and its

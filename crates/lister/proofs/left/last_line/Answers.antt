@@ -1,6 +1,5 @@
 use native.Mathlib.Omega.{arith}
 use Rattle.text.specs.AppendedLaws.{appended_within}
-use borrow.Author.Rules.{rules}
 use Rattle.lister.proofs.left.last_line.Goals as goal
 
 pub returns : goal.returns

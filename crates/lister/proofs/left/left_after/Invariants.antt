@@ -1,14 +1,7 @@
-use Prim.Native.Nat.{ℕ, suc, ◌+◌, ◌-◌, ◌≤◌, ◌<◌}
-use mathlib.Core.Path.{◌≡◌, ap, ◌∙◌}
-use mathlib.Core.Bool.{cond}
-use native.Mathlib.Omega.{arith}
-use lib.ListN.{length, take, get_or}
-use lib.Dec.{eqb}
-use borrow.Author.Rules.{rules}
-use borrow.Author.Tests.{eq-eqb, ne_eqb}
-use Rattle.frame.specs.Reader.{END}
+use Prim.Native.Nat.{◌+◌, ◌-◌, ◌≤◌}
+use mathlib.Core.Path.{◌≡◌}
+use lib.ListN.{length, take}
 use Rattle.lister.specs.Listing.{left_after}
-use Rattle.lister.specs.ListingLaws.{left_more, whole-left}
 use Rattle.lister.proofs.left.left_after.Given as goal
 
 -- From the last byte back to the place i there is no END, so each of those bytes counts one on top of what stands before i.

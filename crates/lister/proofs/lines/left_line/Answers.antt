@@ -1,6 +1,5 @@
 use Rattle.text.specs.Text.{ascii}
 use Rattle.lister.specs.Lines.{left_line}
-use borrow.Author.Rules.{rules}
 use Rattle.lister.proofs.lines.left_line.Goals as goal
 
 pub returns : goal.returns

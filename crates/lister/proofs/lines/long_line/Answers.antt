@@ -8,7 +8,6 @@ use Rattle.text.specs.DecimalLaws.{decimal-below}
 use Rattle.text.specs.PlacesLaws.{places_word_short}
 use Rattle.lister.specs.Lines.{refused_line}
 use Rattle.lister.specs.LinesLaws.{length-refused_line}
-use borrow.Author.Rules.{rules}
 use Rattle.lister.proofs.lines.long_line.Goals as goal
 
 pub overflow_add-count : goal.overflow_add-count

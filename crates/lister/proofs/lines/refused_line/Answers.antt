@@ -1,5 +1,4 @@
 use mathlib.Core.Path.{sym, ◌∙◌}
-use borrow.Author.Rules.{rules}
 use Rattle.lister.proofs.lines.refused_line.Goals as goal
 
 pub short_line-line-requires : goal.short_line-line-requires

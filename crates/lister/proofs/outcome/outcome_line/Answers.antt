@@ -1,7 +1,6 @@
 use native.Mathlib.Omega.{arith}
 use Rattle.lister.specs.LinesLaws.{frame_line_short, refused_line_short}
 use Rattle.lister.specs.ListingLaws.{leaves_nothing}
-use borrow.Author.Rules.{rules}
 use Rattle.lister.proofs.outcome.outcome_line.Goals as goal
 
 pub returns-in-Nothing : goal.returns-in-Nothing

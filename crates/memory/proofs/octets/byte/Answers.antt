@@ -1,6 +1,5 @@
 use mathlib.Core.Path.{sym}
 use lib.ListN.{get_or-eq_default}
-use borrow.Author.Rules.{rules}
 use Rattle.memory.proofs.octets.byte.Goals as goal
 
 pub returns-then-bytes-place : goal.returns-then-bytes-place

@@ -1,10 +1,7 @@
-use Prim.Native.Nat.{◌-◌}
-use mathlib.Core.Path.{◌≡◌, refl, sym, ◌∙◌}
+use mathlib.Core.Path.{refl, sym, ◌∙◌}
 use native.Mathlib.Omega.{arith}
-use lib.ListN.{length, drop}
 use borrow.Author.Tests.{eq-eqb, ne_eqb}
 use borrow.Author.Rules.{rules}
-use Rattle.memory.specs.Octets.{same}
 use Rattle.memory.specs.OctetsLaws.{same_lengths, same_on, same_not, same_end}
 use Rattle.memory.proofs.octets.is_same.Goals as goal
 

@@ -1,7 +1,6 @@
 use Rattle.memory.specs.WroteLaws.{sets-whole}
 use lib.ListN.{replicate, length, length-replicate}
 use mathlib.Core.Path.{◌∙◌}
-use borrow.Author.Rules.{rules}
 use Rattle.nodes.proofs.enrolment.empty.Goals as goal
 
 pub returns : goal.returns

@@ -4,7 +4,6 @@ use Rattle.memory.specs.WroteLaws.{sets_append}
 use lib.ListN.{replicate}
 use mathlib.Core.List.{[], ◌∷◌}
 use mathlib.Core.Path.{◌∙◌}
-use borrow.Author.Rules.{rules}
 use Rattle.nodes.proofs.enrolment.enrol.Goals as goal
 
 pub returns : goal.returns

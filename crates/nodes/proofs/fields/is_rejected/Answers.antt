@@ -1,5 +1,4 @@
 use mathlib.Core.Path.{sym, ◌∙◌}
-use borrow.Author.Rules.{rules}
 use Rattle.nodes.proofs.fields.is_rejected.Goals as goal
 
 pub returns-then-in_use : goal.returns-then-in_use

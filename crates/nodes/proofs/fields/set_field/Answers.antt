@@ -3,11 +3,9 @@ use Rattle.nodes.specs.TableLaws.{used-below}
 use Rattle.nodes.specs.Table.{node_count, in_use, set_field}
 use Rattle.memory.specs.WroteLaws.{take_min}
 use native.Mathlib.Omega.{arith}
-use borrow.Author.Tests.{not-true, not-false}
 use mathlib.Core.Path.{◌≡◌, sym, ◌∙◌, refl}
 use mathlib.Core.Bool.{true}
 use Prim.Native.Nat.{◌<◌}
-use borrow.Author.Rules.{rules}
 use Rattle.nodes.proofs.fields.set_field.Goals as goal
 
 pub returns-then-not-in_use : goal.returns-then-not-in_use

@@ -1,6 +1,5 @@
 use Rattle.nodes.specs.Table.{set_variation}
 use mathlib.Core.Path.{sym, ◌∙◌, refl}
-use borrow.Author.Rules.{rules}
 use Rattle.nodes.proofs.fields.set_variation.Goals as goal
 
 pub returns-then-is_rejected : goal.returns-then-is_rejected

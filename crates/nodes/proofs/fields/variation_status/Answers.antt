@@ -2,7 +2,6 @@ use Rattle.nodes.specs.Table.{variation_field, set_variation}
 use Rattle.nodes.specs.TableLaws.{set_field-status}
 use mathlib.Core.List.{[], ◌∷◌}
 use mathlib.Core.Path.{sym, ◌∙◌}
-use borrow.Author.Rules.{rules}
 use Rattle.nodes.proofs.fields.variation_status.Goals as goal
 
 pub returns-then-is_rejected : goal.returns-then-is_rejected

@@ -4,7 +4,6 @@ use Rattle.memory.specs.WroteLaws.{one, then, sets-whole}
 use lib.ListN.{replicate}
 use Prim.Native.Nat.{ℕ}
 use mathlib.Core.Path.{refl, ◌∙◌}
-use borrow.Author.Rules.{rules}
 use Rattle.nodes.proofs.notification.information_of.Goals as goal
 
 pub returns : goal.returns

@@ -3,7 +3,6 @@ use Rattle.nodes.specs.TableLaws.{field_length}
 use native.Mathlib.Omega.{arith}
 use Prim.Native.Nat.{◌+◌, ◌-◌, ◌*◌}
 use mathlib.Core.Path.{◌≡◌, refl, ◌∙◌}
-use borrow.Author.Rules.{rules}
 use Rattle.nodes.proofs.notification.put_field.Goals as goal
 
 pub returns : goal.returns

@@ -1,5 +1,4 @@
 use Rattle.nodes.specs.Table.{bit}
-use borrow.Author.Rules.{rules}
 use Rattle.nodes.proofs.table.bit.Goals as goal
 
 pub returns : goal.returns

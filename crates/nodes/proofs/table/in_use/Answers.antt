@@ -1,7 +1,6 @@
 use native.Mathlib.Nat.{add-zero}
 use Rattle.nodes.specs.Table.{in_use}
 use borrow.Author.Tests.{lt-ltb, le-ltb}
-use borrow.Author.Rules.{rules}
 use Rattle.nodes.proofs.table.in_use.Goals as goal
 
 pub returns-then-node-ge-NODES : goal.returns-then-node-ge-NODES

@@ -1,10 +1,8 @@
-use lib.ListN.{length}
 use borrow.Author.Rules.{rules}
 use native.Mathlib.Numerals.{add-one}
-use Rattle.nodes.specs.Table.{node_count, remove_one, remove_below}
+use Rattle.nodes.specs.Table.{remove_one, remove_below}
 use native.Mathlib.Nat.{le_antisymm}
-use Prim.Native.Nat.{◌≤◌, ◌-◌}
-use mathlib.Core.Path.{◌≡◌, ap, ◌∙◌, refl}
+use mathlib.Core.Path.{ap, ◌∙◌, refl}
 use Rattle.nodes.proofs.table.remove.Goals as goal
 
 pub loop-k-init : goal.loop-k-init

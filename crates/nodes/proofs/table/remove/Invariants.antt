@@ -1,10 +1,7 @@
 use lib.ListN.{length}
-use borrow.Author.Rules.{rules}
-use native.Mathlib.Numerals.{add-one}
-use Rattle.nodes.specs.Table.{node_count, remove_one, remove_below}
-use native.Mathlib.Nat.{le_antisymm}
+use Rattle.nodes.specs.Table.{node_count, remove_below}
 use Prim.Native.Nat.{◌≤◌, ◌-◌}
-use mathlib.Core.Path.{◌≡◌, ap, ◌∙◌, refl}
+use mathlib.Core.Path.{◌≡◌}
 use Rattle.nodes.proofs.table.remove.Given as goal
 
 -- The nodes below k that the bits name are removed.

@@ -1,6 +1,5 @@
 use Rattle.nodes.specs.Table.{remove_one}
 use mathlib.Core.Path.{sym, ◌∙◌}
-use borrow.Author.Rules.{rules}
 use Rattle.nodes.proofs.table.remove_one.Goals as goal
 
 pub returns-then-is_removed : goal.returns-then-is_removed

@@ -6,7 +6,6 @@ use borrow.Author.Tests.{not-true, not-false}
 use Rattle.nodes.specs.declared.Informed.{Informed}
 use Rattle.nodes.specs.Table.{information_size, information, is_told}
 use Rattle.replies.specs.ReplyLaws.{known_told, told-bytes, told-length, about_node-none, about_node-told}
-use borrow.Author.Rules.{rules}
 use Rattle.replies.proofs.writing.about_node.Goals as goal
 
 pub returns-then-not-informed : goal.returns-then-not-informed

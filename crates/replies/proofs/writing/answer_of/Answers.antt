@@ -1,4 +1,3 @@
-use borrow.Author.Rules.{rules}
 use Rattle.replies.proofs.writing.answer_of.Goals as goal
 
 pub returns-in-UpTo : goal.returns-in-UpTo

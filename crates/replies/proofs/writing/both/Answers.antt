@@ -1,7 +1,5 @@
 use mathlib.Core.Path.{sym, ◌∙◌}
-use borrow.Author.Tests.{not-true, not-false}
 use Rattle.replies.specs.ReplyLaws.{measured_refused, both_refused, both-written}
-use borrow.Author.Rules.{rules}
 use Rattle.replies.proofs.writing.both.Goals as goal
 
 pub returns-then-not-is_written : goal.returns-then-not-is_written

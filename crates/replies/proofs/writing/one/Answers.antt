@@ -1,7 +1,6 @@
 use native.Mathlib.Omega.{arith}
 use lib.ListN.{length-take}
 use Rattle.replies.specs.ReplyLaws.{one_written}
-use borrow.Author.Rules.{rules}
 use Rattle.replies.proofs.writing.one.Goals as goal
 
 pub slice_bounds-write-end : goal.slice_bounds-write-end

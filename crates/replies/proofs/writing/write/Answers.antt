@@ -1,6 +1,5 @@
 use mathlib.Core.Path.{refl}
 use Rattle.replies.specs.ReplyLaws.{bytes_of_one, nothing_fits}
-use borrow.Author.Rules.{rules}
 use Rattle.replies.proofs.writing.write.Goals as goal
 
 pub returns-in-Nothing : goal.returns-in-Nothing

@@ -7,7 +7,6 @@ use Rattle.text.specs.Built.{Built}
 use Rattle.text.specs.BuiltLaws.{built_none, built_all, built_within, built_part}
 use Rattle.text.specs.NumberedLaws.{built_numbered}
 use Rattle.report.specs.Report.{head_size, bad_line}
-use borrow.Author.Rules.{rules}
 use Rattle.report.proofs.bad.bad_line.Goals as goal
 
 pub slice_bounds-append_numbered-end-4 : goal.slice_bounds-append_numbered-end-4

@@ -1,6 +1,5 @@
 use Rattle.text.specs.Text.{ascii}
 use Rattle.report.specs.Report.{long_line}
-use borrow.Author.Rules.{rules}
 use Rattle.report.proofs.bad.long_line.Goals as goal
 
 pub returns : goal.returns

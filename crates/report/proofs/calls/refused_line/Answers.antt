@@ -1,6 +1,5 @@
 use Rattle.text.specs.Text.{ascii}
 use Rattle.report.specs.Report.{refused_line, line_end}
-use borrow.Author.Rules.{rules}
 use Rattle.report.proofs.calls.refused_line.Goals as goal
 
 pub returns-then-spilled : goal.returns-then-spilled

@@ -1,10 +1,5 @@
-use Prim.Native.Nat.{◌-◌}
-use mathlib.Core.Bool.{◌||◌}
-use mathlib.Core.Path.{◌≡◌, refl, sym, ◌∙◌}
-use native.Mathlib.Omega.{arith}
-use lib.ListN.{length, drop}
-use borrow.Author.Rules.{rules}
-use Rattle.report.specs.Report.{has_other, has_spilled}
+use mathlib.Core.Path.{sym, ◌∙◌}
+use Rattle.report.specs.Report.{has_spilled}
 use Rattle.report.specs.ReportLaws.{other_step, found_end}
 use Rattle.report.proofs.calls.spilled.Goals as goal
 

@@ -1,11 +1,8 @@
 use Prim.Native.Nat.{◌-◌}
 use mathlib.Core.Bool.{◌||◌}
-use mathlib.Core.Path.{◌≡◌, refl, sym, ◌∙◌}
-use native.Mathlib.Omega.{arith}
+use mathlib.Core.Path.{◌≡◌}
 use lib.ListN.{length, drop}
-use borrow.Author.Rules.{rules}
-use Rattle.report.specs.Report.{has_other, has_spilled}
-use Rattle.report.specs.ReportLaws.{other_step, found_end}
+use Rattle.report.specs.Report.{has_other}
 use Rattle.report.proofs.calls.spilled.Given as goal
 
 -- One was found up to i, or the rest decides.

@@ -3,7 +3,6 @@ use Rattle.text.specs.Text.{ascii, hex4}
 use Rattle.text.specs.BuiltLaws.{built_none, built_word}
 use Rattle.text.specs.NumberedLaws.{built_numbered, built_word_number}
 use Rattle.report.specs.Entry.{entry_size, entry_head}
-use borrow.Author.Rules.{rules}
 use Rattle.report.proofs.entries.entry_head.Goals as goal
 
 pub returns : goal.returns

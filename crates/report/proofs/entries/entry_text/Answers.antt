@@ -7,7 +7,6 @@ use Rattle.text.specs.Text.{ascii}
 use Rattle.text.specs.BuiltLaws.{built_wrote, built_word, built_all, built_room}
 use Rattle.report.specs.Entry.{name_size, name_length, name_of, shown_all}
 use Rattle.report.specs.EntryLaws.{shown_all_short}
-use borrow.Author.Rules.{rules}
 use Rattle.report.proofs.entries.entry_text.Goals as goal
 
 pub put_name-last-requires : goal.put_name-last-requires

@@ -1,8 +1,6 @@
 use native.Mathlib.Omega.{arith}
-use Prim.Native.Nat.{◌+◌, ◌-◌, ◌≤◌}
-use mathlib.Core.Path.{◌≡◌, sym, ◌∙◌}
+use mathlib.Core.Path.{sym, ◌∙◌}
 use native.Mathlib.Nat.{zero-add}
-use lib.ListN.{length, drop}
 use Rattle.report.specs.Entry.{name_length}
 use Rattle.report.specs.EntryLaws.{name_on, name_found, name_end}
 use Rattle.report.proofs.names.name_length.Goals as goal

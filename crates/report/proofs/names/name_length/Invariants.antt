@@ -1,10 +1,7 @@
-use native.Mathlib.Omega.{arith}
 use Prim.Native.Nat.{◌+◌, ◌-◌, ◌≤◌}
-use mathlib.Core.Path.{◌≡◌, sym, ◌∙◌}
-use native.Mathlib.Nat.{zero-add}
+use mathlib.Core.Path.{◌≡◌}
 use lib.ListN.{length, drop}
 use Rattle.report.specs.Entry.{name_length}
-use Rattle.report.specs.EntryLaws.{name_on, name_found, name_end}
 use Rattle.report.proofs.names.name_length.Given as goal
 
 -- No byte before i is zero: the rest decides.

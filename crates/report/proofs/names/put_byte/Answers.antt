@@ -4,7 +4,6 @@ use Rattle.memory.specs.WroteLaws.{then, kept}
 use Rattle.text.specs.Text.{ascii}
 use Rattle.text.specs.AppendedLaws.{leaves_wrote}
 use Rattle.report.specs.Entry.{shown}
-use borrow.Author.Rules.{rules}
 use Rattle.report.proofs.names.put_byte.Goals as goal
 
 pub returns-then-is_control : goal.returns-then-is_control

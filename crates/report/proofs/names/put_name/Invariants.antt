@@ -1,11 +1,7 @@
-use native.Mathlib.Omega.{arith}
 use Prim.Native.Nat.{◌-◌, ◌≤◌}
 use lib.ListN.{length, take}
-use lib.Seq.{take_all, length-take-le}
 use Rattle.memory.specs.Wrote.{Wrote}
-use Rattle.memory.specs.WroteLaws.{none, then, kept}
 use Rattle.report.specs.Entry.{shown_all}
-use Rattle.report.specs.EntryLaws.{shown_more, shown_all_short}
 use Rattle.report.proofs.names.put_name.Given as goal
 
 -- The text of the first i bytes is stored, and nothing else is.

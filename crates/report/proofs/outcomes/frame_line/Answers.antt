@@ -7,7 +7,6 @@ use Rattle.text.specs.Built.{Built}
 use Rattle.text.specs.BuiltLaws.{built_none, built_word, built_all, built_within, built_part}
 use Rattle.report.specs.Report.{head_size, frame_line}
 use Rattle.text.specs.NumberedLaws.{built_numbered}
-use borrow.Author.Rules.{rules}
 use Rattle.report.proofs.outcomes.frame_line.Goals as goal
 
 pub slice_bounds-reply_line-end : goal.slice_bounds-reply_line-end

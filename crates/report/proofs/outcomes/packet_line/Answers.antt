@@ -13,7 +13,6 @@ use Rattle.text.specs.Built.{Built}
 use Rattle.text.specs.BuiltLaws.{built_none, built_more, built_word, built_all, built_within, built_part}
 use Rattle.text.specs.NumberedLaws.{built_numbered}
 use Rattle.report.specs.Report.{line_end, head_size, placed_size, packet_line}
-use borrow.Author.Rules.{rules}
 use Rattle.report.proofs.outcomes.packet_line.Goals as goal
 
 -- the line is its head, the number, what stands behind it, and the reply

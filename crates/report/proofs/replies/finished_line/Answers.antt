@@ -1,4 +1,3 @@
-use borrow.Author.Rules.{rules}
 use Rattle.text.specs.Text.{ascii}
 use Rattle.report.specs.Report.{finished_line}
 use Rattle.report.proofs.replies.finished_line.Goals as goal

@@ -1,4 +1,3 @@
-use borrow.Author.Rules.{rules}
 use Rattle.text.specs.Text.{ascii}
 use Rattle.report.specs.Report.{none_line}
 use Rattle.report.proofs.replies.none_line.Goals as goal

@@ -1,4 +1,3 @@
-use borrow.Author.Rules.{rules}
 use Rattle.text.specs.Text.{ascii}
 use Rattle.report.specs.Report.{line_end}
 use Rattle.report.proofs.replies.reply_line.Goals as goal

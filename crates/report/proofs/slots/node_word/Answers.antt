@@ -1,6 +1,4 @@
 use native.Mathlib.Omega.{arith}
-use borrow.Author.Rules.{rules}
-use borrow.Author.Tests.{not-true, not-false}
 use Rattle.memory.specs.WroteLaws.{none, then, kept}
 use Rattle.text.specs.Text.{ascii}
 use Rattle.text.specs.DecimalLaws.{decimal-below}

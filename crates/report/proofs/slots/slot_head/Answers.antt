@@ -3,7 +3,6 @@ use Rattle.text.specs.Text.{ascii, hex4}
 use Rattle.text.specs.BuiltLaws.{built_none, built_word}
 use Rattle.text.specs.NumberedLaws.{built_numbered}
 use Rattle.report.specs.State.{slot_size}
-use borrow.Author.Rules.{rules}
 use Rattle.report.proofs.slots.slot_head.Goals as goal
 
 pub returns : goal.returns

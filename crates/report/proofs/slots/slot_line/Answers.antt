@@ -1,5 +1,4 @@
 use Rattle.text.specs.BuiltLaws.{built_part}
-use borrow.Author.Rules.{rules}
 use Rattle.report.proofs.slots.slot_line.Goals as goal
 
 pub returns : goal.returns

@@ -8,7 +8,6 @@ use Rattle.text.specs.NumberedLaws.{built_numbered}
 use Rattle.sessions.specs.Sessions.{target_count}
 use Rattle.report.specs.State.{slot_size, nodes_below, slot_line}
 use Rattle.report.specs.SlotLaws.{nodes_below_short}
-use borrow.Author.Rules.{rules}
 use Rattle.report.proofs.slots.slot_text.Goals as goal
 
 pub put_nodes-last-requires : goal.put_nodes-last-requires

@@ -1,4 +1,3 @@
-use borrow.Author.Rules.{rules}
 use Rattle.text.specs.Text.{ascii}
 use Rattle.report.specs.State.{login_line}
 use Rattle.report.proofs.state.login_line.Goals as goal

@@ -5,7 +5,6 @@ use Rattle.text.specs.PlacesLaws.{places_word_short}
 use Rattle.text.specs.BuiltLaws.{built_none, built_more, built_word, built_all}
 use Rattle.report.specs.Report.{placed_size}
 use Rattle.report.specs.State.{mode_places}
-use borrow.Author.Rules.{rules}
 use Rattle.report.proofs.state.mode_end.Goals as goal
 
 pub returns-in-Plain : goal.returns-in-Plain

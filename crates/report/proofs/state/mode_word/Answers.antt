@@ -2,7 +2,6 @@ use mathlib.Core.Path.{refl}
 use native.Mathlib.Omega.{arith}
 use Rattle.text.specs.Text.{ascii}
 use Rattle.report.specs.State.{mode_word}
-use borrow.Author.Rules.{rules}
 use Rattle.report.proofs.state.mode_word.Goals as goal
 
 pub returns-in-Plain : goal.returns-in-Plain

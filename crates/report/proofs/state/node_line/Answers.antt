@@ -1,7 +1,6 @@
 use Rattle.text.specs.Text.{ascii}
 use Rattle.report.specs.Report.{line_end}
 use Rattle.report.specs.State.{node_line}
-use borrow.Author.Rules.{rules}
 use Rattle.report.proofs.state.node_line.Goals as goal
 
 pub returns : goal.returns

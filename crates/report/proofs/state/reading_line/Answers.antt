@@ -2,9 +2,8 @@ use Prim.Native.Nat.{◌-◌}
 use mathlib.Core.Path.{◌≡◌}
 use native.Mathlib.Omega.{arith}
 use Rattle.text.specs.Text.{ascii}
-use Rattle.text.specs.BuiltLaws.{built_within, built_part}
+use Rattle.text.specs.BuiltLaws.{built_part}
 use Rattle.report.specs.State.{reading_line}
-use borrow.Author.Rules.{rules}
 use Rattle.report.proofs.state.reading_line.Goals as goal
 
 pub returns : goal.returns

@@ -2,7 +2,6 @@ use mathlib.Core.Path.{refl}
 use native.Mathlib.Omega.{arith}
 use Rattle.text.specs.Text.{ascii}
 use Rattle.report.specs.State.{skip_word}
-use borrow.Author.Rules.{rules}
 use Rattle.report.proofs.state.skip_word.Goals as goal
 
 pub returns-in-WrongEscape : goal.returns-in-WrongEscape

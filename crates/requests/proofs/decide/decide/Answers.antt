@@ -2,7 +2,6 @@ use Rattle.rules.specs.Hub.{respond}
 use Rattle.directory.specs.Lookup.{error_of}
 use Rattle.requests.proofs.decide.Laws.{failed_decides}
 use mathlib.Core.Path.{sym, ap, ◌∙◌}
-use borrow.Author.Rules.{rules}
 use Rattle.requests.proofs.decide.decide.Goals as goal
 
 pub request-requires : goal.request-requires

@@ -1,5 +1,4 @@
 use mathlib.Core.Path.{sym, ◌∙◌}
-use borrow.Author.Rules.{rules}
 use Rattle.requests.proofs.decide.may_ask.Goals as goal
 
 pub returns-then-is_logged_in : goal.returns-then-is_logged_in

@@ -1,4 +1,3 @@
-use borrow.Author.Rules.{rules}
 use Rattle.requests.proofs.decide.mode_send.Goals as goal
 
 pub returns : goal.returns

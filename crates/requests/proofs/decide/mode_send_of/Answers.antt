@@ -1,10 +1,9 @@
 use Rattle.sessions.specs.Sessions.{mode_send_size, mode_send_of}
 use Rattle.memory.specs.WroteLaws.{sets-whole}
 use lib.ListN.{replicate}
-use Prim.Native.Nat.{ℕ, ◌-◌}
+use Prim.Native.Nat.{ℕ}
 use mathlib.Core.List.{List}
 use mathlib.Core.Path.{ap, ◌∙◌}
-use borrow.Author.Rules.{rules}
 use Rattle.requests.proofs.decide.mode_send_of.Goals as goal
 
 pub returns : goal.returns

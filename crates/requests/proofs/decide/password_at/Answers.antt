@@ -6,7 +6,6 @@ use lib.ListN.{length, take, drop, replicate, length-drop}
 use lib.Seq.{sets, length-take-le}
 use Rattle.memory.specs.WroteLaws.{sets-whole}
 use Rattle.rules.specs.Hub.{password_size}
-use borrow.Author.Rules.{rules}
 use Rattle.requests.proofs.decide.password_at.Goals as goal
 
 pub returns : goal.returns

@@ -1,5 +1,4 @@
 use mathlib.Core.Path.{sym, ◌∙◌}
-use borrow.Author.Rules.{rules}
 use Rattle.requests.proofs.decide.password_status.Goals as goal
 
 pub returns-then-is_same : goal.returns-then-is_same

@@ -7,7 +7,6 @@ use Rattle.requests.proofs.decide.Laws.{failed_decides, entered_decides, changed
 use borrow.Author.Tests.{ne_eqb}
 use native.Mathlib.Omega.{arith}
 use mathlib.Core.Path.{refl}
-use borrow.Author.Rules.{rules}
 use Rattle.requests.proofs.decide.request.Goals as goal
 
 pub password_status-requires : goal.password_status-requires

@@ -1,6 +1,5 @@
 use Rattle.memory.specs.WroteLaws.{rest}
 use native.Mathlib.Omega.{arith}
-use borrow.Author.Rules.{rules}
 use Rattle.requests.proofs.effects.carry_out.Goals as goal
 
 pub log_in-requires : goal.log_in-requires

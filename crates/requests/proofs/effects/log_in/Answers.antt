@@ -1,5 +1,4 @@
 use borrow.Author.Tests.{eq-eqb, ne_eqb}
-use borrow.Author.Rules.{rules}
 use Rattle.requests.proofs.effects.log_in.Goals as goal
 
 pub returns-then-status-eq-CORRECT : goal.returns-then-status-eq-CORRECT

@@ -1,6 +1,5 @@
 use borrow.Author.Tests.{eq-eqb, ne_eqb}
 use mathlib.Core.Path.{◌∙◌}
-use borrow.Author.Rules.{rules}
 use Rattle.requests.proofs.effects.open_if.Goals as goal
 
 pub returns-then-status-eq-ACCEPTED : goal.returns-then-status-eq-ACCEPTED

@@ -4,7 +4,6 @@ use Rattle.requests.specs.Answers.{reading_at}
 use Rattle.requests.proofs.feed.Laws.{refused_feeds}
 use lib.ListN.{length}
 use native.Mathlib.Omega.{arith}
-use borrow.Author.Rules.{rules}
 use Rattle.requests.proofs.feed.call_in.Goals as goal
 
 pub returns-then-table-ne-TABLE : goal.returns-then-table-ne-TABLE

@@ -3,7 +3,6 @@ use Rattle.requests.proofs.decide.Laws.{failed_decides}
 use Prim.Native.Nat.{◌+◌, ◌-◌}
 use native.Mathlib.Omega.{arith}
 use mathlib.Core.Path.{◌≡◌, refl}
-use borrow.Author.Rules.{rules}
 use Rattle.requests.proofs.feed.decide_outcome.Goals as goal
 
 pub overflow_add-len : goal.overflow_add-len

@@ -5,7 +5,6 @@ use Rattle.requests.proofs.feed.Laws.{data_bounded, short_feeds, told-feeds}
 use Prim.Native.Nat.{◌+◌, ◌-◌}
 use native.Mathlib.Omega.{arith}
 use mathlib.Core.Path.{◌≡◌, sym, ap, ◌∙◌}
-use borrow.Author.Rules.{rules}
 use Rattle.requests.proofs.feed.serve.Goals as goal
 
 pub decide_outcome-reply-requires : goal.decide_outcome-reply-requires

@@ -8,7 +8,6 @@ use Rattle.memory.specs.Octets.{same}
 use Rattle.memory.specs.OctetsLaws.{same_equal}
 use Rattle.text.specs.Text.{ascii}
 use Rattle.script.specs.Script.{is_bytes, pairs, bytes}
-use borrow.Author.Rules.{rules}
 use Rattle.script.proofs.hex.decode.Goals as goal
 
 pub returns-then-is_same : goal.returns-then-is_same

@@ -1,6 +1,5 @@
 use mathlib.Core.Path.{◌≡◌, sym, ◌∙◌}
 use mathlib.Core.Bool.{true, false}
-use borrow.Author.Rules.{rules}
 use Rattle.script.specs.Script.{between, hex_value}
 use Rattle.script.specs.ByteLaws.{between_is}
 use Rattle.script.proofs.hex.hex_value.Goals as goal

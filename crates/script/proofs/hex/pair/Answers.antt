@@ -2,7 +2,6 @@ use native.Mathlib.Omega.{arith}
 use borrow.Author.Tests.{lt-ltb, le-ltb}
 use Rattle.script.specs.Script.{hex_value}
 use Rattle.script.specs.Code.{pair_of}
-use borrow.Author.Rules.{rules}
 use Rattle.script.proofs.hex.pair.Goals as goal
 
 pub returns-then-tens-gt15 : goal.returns-then-tens-gt15

@@ -1,7 +1,6 @@
 use native.Mathlib.Omega.{arith}
 use mathlib.Core.Path.{sym}
 use Rattle.script.specs.ByteLaws.{session_is, session-length, session-left, session-right}
-use borrow.Author.Rules.{rules}
 use Rattle.script.proofs.hex.session.Goals as goal
 
 pub returns-then-text-ne4 : goal.returns-then-text-ne4

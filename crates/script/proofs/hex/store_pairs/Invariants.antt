@@ -1,15 +1,8 @@
-use native.Mathlib.Omega.{arith}
-use Prim.Native.Nat.{ℕ, ◌+◌, ◌*◌, ◌-◌, ◌/◌, ◌≤◌, ◌<◌}
-use mathlib.Core.Path.{◌≡◌, refl, ap, ◌∙◌}
-use mathlib.Core.List.{List}
-use lib.ListN.{length, take, drop, get_or}
-use lib.Seq.{take_all, take_at}
+use Prim.Native.Nat.{◌*◌, ◌-◌, ◌≤◌}
+use mathlib.Core.Path.{◌≡◌}
+use lib.ListN.{take, drop}
 use Rattle.memory.specs.Wrote.{Wrote}
-use Rattle.memory.specs.WroteLaws.{none, one, then, kept, take_more, front_to}
 use Rattle.script.specs.Script.{all_hex, pairs}
-use Rattle.script.specs.Code.{pair_of}
-use Rattle.script.specs.ByteLaws.{pair_on, pair_not, pair_byte, hex_end, length_pairs, pairs-at}
-use borrow.Author.Rules.{rules}
 use Rattle.script.proofs.hex.store_pairs.Given as goal
 
 -- The bytes of the first i pairs are stored, and nothing else is; all digits before them are some.

@@ -1,13 +1,11 @@
-use Prim.Native.Nat.{◌+◌, ◌*◌, ◌-◌, ◌^◌, ◌≤◌, ◌<◌}
+use Prim.Native.Nat.{◌+◌, ◌*◌, ◌^◌, ◌≤◌}
 use mathlib.Core.Path.{◌≡◌, refl, sym, ◌∙◌}
 use mathlib.Core.Bool.{true}
 use native.Mathlib.Numerals.{add-one}
 use native.Mathlib.Nat.{pow-suc, pow-le-pow_right}
 use native.Mathlib.Omega.{arith}
-use lib.ListN.{length, get_or, drop}
-use borrow.Author.Tests.{not-true, not-false}
-use borrow.Author.Rules.{rules}
-use Rattle.script.specs.Script.{digits_most, between, digits_from}
+use lib.ListN.{get_or}
+use Rattle.script.specs.Script.{digits_most, between}
 use Rattle.script.specs.ByteLaws.{digits_on, digits-not, digits_end, between_is}
 use Rattle.script.proofs.numbers.digits.Goals as goal
 

@@ -1,7 +1,6 @@
 use native.Mathlib.Omega.{arith}
 use lib.ListN.{length}
 use borrow.Author.Tests.{lt-ltb, le-ltb, lt-leb, le-leb}
-use borrow.Author.Rules.{rules}
 use Rattle.script.specs.Script.{is_plain}
 use Rattle.script.proofs.numbers.is_plain.Goals as goal
 

@@ -1,7 +1,6 @@
 use mathlib.Core.Path.{◌≡◌, sym, ◌∙◌}
 use mathlib.Core.Bool.{true}
-use borrow.Author.Tests.{not-true, not-false, le-leb, lt-leb}
-use borrow.Author.Rules.{rules}
+use borrow.Author.Tests.{le-leb, lt-leb}
 use Rattle.script.specs.Script.{is_plain, number, number_up_to}
 use Rattle.script.specs.ByteLaws.{plain_short}
 use Rattle.script.proofs.numbers.number_in.Goals as goal

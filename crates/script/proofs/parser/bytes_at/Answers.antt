@@ -5,7 +5,6 @@ use Rattle.memory.specs.Octets.{same}
 use Rattle.text.specs.Text.{ascii}
 use Rattle.script.specs.Script.{is_bytes, bytes}
 use Rattle.script.specs.WordLaws.{end_part, from-behind, from_first, from-rest}
-use borrow.Author.Rules.{rules}
 use Rattle.script.proofs.parser.bytes_at.Goals as goal
 
 pub returns-then-line-from : goal.returns-then-line-from

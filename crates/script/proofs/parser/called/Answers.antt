@@ -2,7 +2,6 @@ use mathlib.Core.Path.{◌≡◌, refl, sym, ◌∙◌}
 use mathlib.Core.Bool.{Bool}
 use Rattle.text.specs.Text.{ascii}
 use Rattle.script.specs.Script.{called}
-use borrow.Author.Rules.{rules}
 use Rattle.script.proofs.parser.called.Goals as goal
 
 -- what a test of the word says of it

@@ -3,7 +3,6 @@ use mathlib.Core.Path.{refl}
 use Rattle.script.specs.Script.{close_of}
 use Rattle.script.specs.ByteLaws.{up_to_most}
 use Rattle.script.specs.WordLaws.{ended_is, ended-not}
-use borrow.Author.Rules.{rules}
 use Rattle.script.proofs.parser.close.Goals as goal
 
 pub returns-in_default : goal.returns-in_default

@@ -4,7 +4,6 @@ use Rattle.script.specs.Script.{enrol_of}
 use Rattle.script.specs.ByteLaws.{up_to_most}
 use Rattle.script.specs.WordLaws.{ended_is, ended-not}
 use Rattle.script.specs.CallLaws.{table_most_lem}
-use borrow.Author.Rules.{rules}
 use Rattle.script.proofs.parser.enrol.Goals as goal
 
 pub returns-in_default : goal.returns-in_default

@@ -1,7 +1,6 @@
 use native.Mathlib.Omega.{arith}
 use mathlib.Core.Path.{sym}
 use Rattle.script.specs.CallLaws.{remark_empty, remark_first}
-use borrow.Author.Rules.{rules}
 use Rattle.script.proofs.parser.is_remark.Goals as goal
 
 pub returns-then-line-eq0 : goal.returns-then-line-eq0

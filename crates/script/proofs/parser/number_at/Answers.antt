@@ -5,7 +5,6 @@ use lib.ListN.{length}
 use Rattle.script.specs.Script.{is_plain, number, number_up_to}
 use Rattle.script.specs.Code.{told}
 use Rattle.script.specs.WordLaws.{end_part, from-behind, from_first, from-rest}
-use borrow.Author.Rules.{rules}
 use Rattle.script.proofs.parser.number_at.Goals as goal
 
 pub returns-then-line-from : goal.returns-then-line-from

@@ -3,7 +3,6 @@ use mathlib.Core.Path.{refl, sym, ◌∙◌}
 use lib.Seq.{length-take-le}
 use Rattle.script.specs.WordLaws.{end_within}
 use Rattle.script.specs.CallLaws.{parse-long, parse_remark, parse_word}
-use borrow.Author.Rules.{rules}
 use Rattle.script.proofs.parser.parse.Goals as goal
 
 pub returns-then-line-gt-LONGEST : goal.returns-then-line-gt-LONGEST

@@ -5,7 +5,6 @@ use lib.ListN.{length}
 use Rattle.script.specs.Script.{session}
 use Rattle.script.specs.Code.{told}
 use Rattle.script.specs.WordLaws.{end_part, from-behind, from_first, from-rest}
-use borrow.Author.Rules.{rules}
 use Rattle.script.proofs.parser.session_at.Goals as goal
 
 pub returns-then-line-from : goal.returns-then-line-from

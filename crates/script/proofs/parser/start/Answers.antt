@@ -2,7 +2,6 @@ use mathlib.Core.Path.{refl}
 use Rattle.script.specs.Script.{start_of}
 use Rattle.script.specs.WordLaws.{ended_is, ended-not}
 use Rattle.script.specs.CallLaws.{table_most_lem}
-use borrow.Author.Rules.{rules}
 use Rattle.script.proofs.parser.start.Goals as goal
 
 pub returns-in_default : goal.returns-in_default

@@ -1,6 +1,5 @@
 use Rattle.script.specs.WordLaws.{from-behind}
 use Rattle.script.specs.CallLaws.{table_none, table-numbered}
-use borrow.Author.Rules.{rules}
 use Rattle.script.proofs.parser.table_at.Goals as goal
 
 pub returns-then-line-from : goal.returns-then-line-from

@@ -1,9 +1,7 @@
-use Prim.Native.Nat.{◌+◌, ◌-◌}
-use mathlib.Core.Path.{◌≡◌, refl, ◌∙◌}
+use mathlib.Core.Path.{◌∙◌}
 use native.Mathlib.Omega.{arith}
-use lib.ListN.{length, drop}
 use borrow.Author.Tests.{eq-eqb, ne_eqb}
-use Rattle.script.specs.Code.{word_length, word_end}
+use Rattle.script.specs.Code.{word_end}
 use Rattle.script.specs.WordLaws.{word_on, word_found, word_end_lem}
 use Rattle.script.proofs.parser.word_end.Goals as goal
 

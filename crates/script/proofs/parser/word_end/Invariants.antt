@@ -1,10 +1,7 @@
 use Prim.Native.Nat.{◌+◌, ◌-◌}
-use mathlib.Core.Path.{◌≡◌, refl, ◌∙◌}
-use native.Mathlib.Omega.{arith}
+use mathlib.Core.Path.{◌≡◌}
 use lib.ListN.{length, drop}
-use borrow.Author.Tests.{eq-eqb, ne_eqb}
-use Rattle.script.specs.Code.{word_length, word_end}
-use Rattle.script.specs.WordLaws.{word_on, word_found, word_end_lem}
+use Rattle.script.specs.Code.{word_length}
 use Rattle.script.proofs.parser.word_end.Given as goal
 
 -- The word ends where it does from i on.

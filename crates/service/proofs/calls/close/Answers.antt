@@ -1,5 +1,4 @@
 use Rattle.demands.specs.Steps.{closes}
-use borrow.Author.Rules.{rules}
 use Rattle.service.proofs.calls.close.Goals as goal
 
 pub returns : goal.returns

@@ -1,5 +1,4 @@
 use Rattle.demands.specs.Steps.{enrols}
-use borrow.Author.Rules.{rules}
 use Rattle.service.proofs.calls.enrol.Goals as goal
 
 pub returns : goal.returns

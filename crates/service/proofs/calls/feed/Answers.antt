@@ -1,5 +1,4 @@
 use Rattle.demands.specs.Steps.{feeds}
-use borrow.Author.Rules.{rules}
 use Rattle.service.proofs.calls.feed.Goals as goal
 
 pub returns : goal.returns

@@ -1,5 +1,4 @@
 use Rattle.demands.specs.Steps.{finishes}
-use borrow.Author.Rules.{rules}
 use Rattle.service.proofs.calls.finish.Goals as goal
 
 pub returns : goal.returns

@@ -1,5 +1,4 @@
 use Rattle.demands.specs.Steps.{starts}
-use borrow.Author.Rules.{rules}
 use Rattle.service.proofs.calls.start.Goals as goal
 
 pub returns : goal.returns

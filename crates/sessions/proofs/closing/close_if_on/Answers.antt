@@ -1,6 +1,5 @@
 use Rattle.sessions.specs.Sessions.{is_on, close_one, with_slot}
 use mathlib.Core.Path.{sym, ap, ◌∙◌}
-use borrow.Author.Rules.{rules}
 use Rattle.sessions.proofs.closing.close_if_on.Goals as goal
 
 pub returns-then-is_on : goal.returns-then-is_on

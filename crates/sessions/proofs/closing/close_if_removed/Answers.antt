@@ -1,6 +1,5 @@
 use Rattle.sessions.specs.Sessions.{holds_removed, close_one, with_slot}
 use mathlib.Core.Path.{sym, ap, ◌∙◌}
-use borrow.Author.Rules.{rules}
 use Rattle.sessions.proofs.closing.close_if_removed.Goals as goal
 
 pub returns-then-holds_removed : goal.returns-then-holds_removed

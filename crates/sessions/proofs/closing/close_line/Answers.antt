@@ -1,9 +1,8 @@
 use borrow.Author.Rules.{rules}
-use Rattle.sessions.specs.Sessions.{slot_count, is_on, close_one, close_below}
+use Rattle.sessions.specs.Sessions.{close_one, close_below}
 use native.Mathlib.Nat.{le_antisymm}
 use native.Mathlib.Numerals.{add-one}
-use Prim.Native.Nat.{◌-◌, ◌≤◌}
-use mathlib.Core.Path.{◌≡◌, refl, ap, ◌∙◌}
+use mathlib.Core.Path.{refl, ap, ◌∙◌}
 use Rattle.sessions.proofs.closing.close_line.Goals as goal
 
 pub loop-k-init : goal.loop-k-init

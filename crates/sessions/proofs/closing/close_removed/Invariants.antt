@@ -1,9 +1,6 @@
-use borrow.Author.Rules.{rules}
-use Rattle.sessions.specs.Sessions.{slot_count, holds_removed, close_one, close_below}
-use native.Mathlib.Nat.{le_antisymm}
-use native.Mathlib.Numerals.{add-one}
+use Rattle.sessions.specs.Sessions.{slot_count, holds_removed, close_below}
 use Prim.Native.Nat.{◌-◌, ◌≤◌}
-use mathlib.Core.Path.{◌≡◌, refl, ap, ◌∙◌}
+use mathlib.Core.Path.{◌≡◌}
 use Rattle.sessions.proofs.closing.close_removed.Given as goal
 
 -- The slots below k are done.

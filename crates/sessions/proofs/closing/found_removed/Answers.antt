@@ -1,5 +1,4 @@
 use mathlib.Core.Path.{sym, ◌∙◌}
-use borrow.Author.Rules.{rules}
 use Rattle.sessions.proofs.closing.found_removed.Goals as goal
 
 pub returns-then-holds : goal.returns-then-holds

@@ -1,14 +1,10 @@
-use Prim.Native.Nat.{◌≤◌, ◌-◌}
-use mathlib.Core.Bool.{◌&&◌}
-use mathlib.Core.Path.{◌≡◌, refl, sym, ◌∙◌}
+use mathlib.Core.Path.{refl, sym, ◌∙◌}
 use native.Mathlib.Nat.{le_antisymm}
-use borrow.Author.Tests.{not-true}
 use borrow.Author.Rules.{rules}
-use Rattle.nodes.specs.Table.{node_count, is_removed}
 use Rattle.sessions.specs.Search.{any, below}
 use Rattle.sessions.specs.SearchLaws.{any_below}
 use Rattle.sessions.specs.SessionLaws.{removed_none}
-use Rattle.sessions.specs.Sessions.{holds, holds_removed}
+use Rattle.sessions.specs.Sessions.{holds_removed}
 use Rattle.sessions.proofs.closing.holds_removed.Goals as goal
 
 pub returns-then-not-is_open : goal.returns-then-not-is_open

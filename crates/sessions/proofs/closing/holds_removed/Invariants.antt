@@ -1,14 +1,9 @@
 use Prim.Native.Nat.{◌≤◌, ◌-◌}
 use mathlib.Core.Bool.{◌&&◌}
-use mathlib.Core.Path.{◌≡◌, refl, sym, ◌∙◌}
-use native.Mathlib.Nat.{le_antisymm}
-use borrow.Author.Tests.{not-true}
-use borrow.Author.Rules.{rules}
+use mathlib.Core.Path.{◌≡◌}
 use Rattle.nodes.specs.Table.{node_count, is_removed}
 use Rattle.sessions.specs.Search.{any, below}
-use Rattle.sessions.specs.SearchLaws.{any_below}
-use Rattle.sessions.specs.SessionLaws.{removed_none}
-use Rattle.sessions.specs.Sessions.{holds, holds_removed}
+use Rattle.sessions.specs.Sessions.{holds}
 use Rattle.sessions.proofs.closing.holds_removed.Given as goal
 
 -- The nodes below k are looked at.

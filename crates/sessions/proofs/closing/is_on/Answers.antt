@@ -1,5 +1,4 @@
 use mathlib.Core.Path.{sym, ◌∙◌}
-use borrow.Author.Rules.{rules}
 use Rattle.sessions.proofs.closing.is_on.Goals as goal
 
 pub returns-then-is_open : goal.returns-then-is_open

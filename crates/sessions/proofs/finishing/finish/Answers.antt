@@ -3,9 +3,7 @@ use Rattle.sessions.specs.Search.{any}
 use Rattle.sessions.specs.SlotLaws.{any-slot}
 use Rattle.sessions.specs.Sessions.{slots_of, is_numbered, finish}
 use borrow.Author.Tests.{lt-ltb, le-ltb}
-use Prim.Native.Nat.{◌-◌}
 use mathlib.Core.Path.{◌≡◌, ◌∙◌}
-use borrow.Author.Rules.{rules}
 use Rattle.sessions.proofs.finishing.finish.Goals as goal
 
 pub returns-then-k-lt-SLOTS : goal.returns-then-k-lt-SLOTS

@@ -1,14 +1,11 @@
-use borrow.Author.Rules.{rules}
 use Rattle.sessions.specs.Sessions.{slot_count, slots_of, holds}
-use Rattle.sessions.specs.SlotLaws.{slots_count, slot_within}
-use Rattle.sessions.specs.SearchLaws.{any_on, any_found, any_end, any_swap}
 use Rattle.sessions.specs.Search.{any}
 use Rattle.sessions.specs.declared.Slot.{Slot}
 use lib.ListN.{drop}
 use mathlib.Core.List.{List}
 use mathlib.Core.Bool.{Bool}
 use Prim.Native.Nat.{ℕ, ◌-◌, ◌≤◌}
-use mathlib.Core.Path.{◌≡◌, refl, sym, ap, ◌∙◌}
+use mathlib.Core.Path.{◌≡◌}
 use Rattle.sessions.proofs.opening.any_held.Given as goal
 
 -- a slot's session holds one of the nodes

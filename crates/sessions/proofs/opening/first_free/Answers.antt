@@ -1,13 +1,10 @@
 use borrow.Author.Rules.{rules}
-use Rattle.sessions.specs.Sessions.{slot_count, slots_of, is_free}
+use Rattle.sessions.specs.Sessions.{slots_of, is_free}
 use Rattle.sessions.specs.SlotLaws.{slots_count, slot_within}
 use Rattle.sessions.specs.SearchLaws.{first_on, first_found, first_end}
-use Rattle.sessions.specs.Search.{first}
 use native.Mathlib.Nat.{zero-add}
-use lib.ListN.{drop}
 use mathlib.Core.Bool.{not}
-use Prim.Native.Nat.{◌+◌, ◌-◌, ◌≤◌}
-use mathlib.Core.Path.{◌≡◌, sym, ap, ◌∙◌}
+use mathlib.Core.Path.{sym, ap, ◌∙◌}
 use Rattle.sessions.proofs.opening.first_free.Goals as goal
 
 pub loop-k-init : goal.loop-k-init

@@ -1,7 +1,6 @@
 use Rattle.sessions.specs.Sessions.{is_free}
 use Rattle.sessions.specs.SlotLaws.{any-slot}
-use mathlib.Core.Path.{sym, ◌∙◌}
-use borrow.Author.Rules.{rules}
+use mathlib.Core.Path.{sym}
 use Rattle.sessions.proofs.opening.has_free.Goals as goal
 
 pub returns : goal.returns

@@ -1,10 +1,7 @@
 use Prim.Native.Nat.{◌≤◌, ◌-◌}
-use mathlib.Core.Path.{◌≡◌, refl, sym, ◌∙◌}
-use native.Mathlib.Omega.{arith}
-use lib.ListN.{length, drop, get_or}
-use borrow.Author.Rules.{rules}
+use mathlib.Core.Path.{◌≡◌}
+use lib.ListN.{length, drop}
 use Rattle.sessions.specs.Search.{any}
-use Rattle.sessions.specs.SearchLaws.{any_on, any_found, any_end}
 use Rattle.sessions.specs.Sessions.{holds}
 use Rattle.sessions.proofs.opening.holds_any.Given as goal
 

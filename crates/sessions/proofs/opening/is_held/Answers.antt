@@ -1,11 +1,8 @@
 use borrow.Author.Rules.{rules}
-use Rattle.sessions.specs.Sessions.{slot_count, slots_of, holds}
+use Rattle.sessions.specs.Sessions.{slots_of, holds}
 use Rattle.sessions.specs.SlotLaws.{slots_count, slot_within}
 use Rattle.sessions.specs.SearchLaws.{any_on, any_found, any_end}
-use Rattle.sessions.specs.Search.{any}
-use lib.ListN.{drop}
-use Prim.Native.Nat.{◌-◌, ◌≤◌}
-use mathlib.Core.Path.{◌≡◌, refl, sym, ap, ◌∙◌}
+use mathlib.Core.Path.{refl, sym, ap, ◌∙◌}
 use Rattle.sessions.proofs.opening.is_held.Goals as goal
 
 pub loop-k-init : goal.loop-k-init

@@ -1,13 +1,13 @@
-use Prim.Native.Nat.{ℕ, ◌≤◌, ◌-◌, ◌*◌, ◌/◌, ◌%◌, ◌^◌}
+use Prim.Native.Nat.{ℕ, ◌≤◌, ◌*◌, ◌/◌, ◌%◌, ◌^◌}
 use mathlib.Core.Path.{◌≡◌, refl, sym, ◌∙◌}
 use mathlib.Core.List.{List}
 use native.Mathlib.Nat.{one-mul}
 use native.Mathlib.Omega.{arith}
-use lib.ListN.{length, drop, get_or, replicate, length-set}
+use lib.ListN.{length, get_or, length-set}
 use lib.Seq.{set_out}
 use lib.Pow.{shl_exact}
 use borrow.Author.Rules.{rules}
-use Rattle.sessions.specs.Sessions.{mark_bytes, with_bit, marked}
+use Rattle.sessions.specs.Sessions.{with_bit}
 use Rattle.sessions.specs.SessionLaws.{marked_on, marked_end}
 use Rattle.sessions.proofs.opening.marked.Goals as goal
 

@@ -1,14 +1,7 @@
-use Prim.Native.Nat.{ℕ, ◌≤◌, ◌-◌, ◌*◌, ◌/◌, ◌%◌, ◌^◌}
-use mathlib.Core.Path.{◌≡◌, refl, sym, ◌∙◌}
-use mathlib.Core.List.{List}
-use native.Mathlib.Nat.{one-mul}
-use native.Mathlib.Omega.{arith}
-use lib.ListN.{length, drop, get_or, replicate, length-set}
-use lib.Seq.{set_out}
-use lib.Pow.{shl_exact}
-use borrow.Author.Rules.{rules}
-use Rattle.sessions.specs.Sessions.{mark_bytes, with_bit, marked}
-use Rattle.sessions.specs.SessionLaws.{marked_on, marked_end}
+use Prim.Native.Nat.{◌≤◌, ◌-◌}
+use mathlib.Core.Path.{◌≡◌}
+use lib.ListN.{length, drop, replicate}
+use Rattle.sessions.specs.Sessions.{mark_bytes, marked}
 use Rattle.sessions.proofs.opening.marked.Given as goal
 
 -- The indices before the place are marked, and every mark has its byte.

@@ -2,7 +2,6 @@ use Rattle.sessions.specs.SlotLaws.{first_slot}
 use Rattle.sessions.specs.Sessions.{is_free}
 use native.Mathlib.Omega.{arith}
 use mathlib.Core.Path.{◌∙◌}
-use borrow.Author.Rules.{rules}
 use Rattle.sessions.proofs.opening.open_with.Goals as goal
 
 pub put_slot-requires : goal.put_slot-requires

@@ -2,7 +2,7 @@ use Rattle.sessions.specs.SessionLaws.{legal_count}
 use Rattle.sessions.specs.Sessions.{slot_count, slots_of, is_free, is_numbered, max_indices, is_legal, mode_send_status}
 use Rattle.sessions.specs.SlotLaws.{any-slot}
 use Rattle.sessions.specs.Search.{any}
-use borrow.Author.Tests.{lt-ltb, le-ltb, not-true, not-false}
+use borrow.Author.Tests.{lt-ltb, le-ltb}
 use lib.ListN.{length}
 use lib.Seq.{length-take-le}
 use lib.Dec.{ltb}

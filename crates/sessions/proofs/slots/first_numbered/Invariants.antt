@@ -1,12 +1,8 @@
-use borrow.Author.Rules.{rules}
 use Rattle.sessions.specs.Sessions.{slot_count, slots_of, is_numbered}
-use Rattle.sessions.specs.SlotLaws.{slots_count, slot_within}
-use Rattle.sessions.specs.SearchLaws.{first_on, first_found, first_end}
 use Rattle.sessions.specs.Search.{first}
-use native.Mathlib.Nat.{zero-add}
 use lib.ListN.{drop}
 use Prim.Native.Nat.{◌+◌, ◌-◌, ◌≤◌}
-use mathlib.Core.Path.{◌≡◌, sym, ap, ◌∙◌}
+use mathlib.Core.Path.{◌≡◌}
 use Rattle.sessions.proofs.slots.first_numbered.Given as goal
 
 -- What is to be found stands at the place or behind it.

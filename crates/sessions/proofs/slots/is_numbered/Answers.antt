@@ -1,5 +1,4 @@
 use mathlib.Core.Path.{sym, ◌∙◌}
-use borrow.Author.Rules.{rules}
 use Rattle.sessions.proofs.slots.is_numbered.Goals as goal
 
 pub returns-then-is_open : goal.returns-then-is_open

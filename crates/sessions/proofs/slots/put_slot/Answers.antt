@@ -4,7 +4,6 @@ use lib.Seq.{sets}
 use mathlib.Core.List.{List, [], ◌∷◌}
 use Prim.Native.Nat.{ℕ, ◌+◌, ◌*◌, ◌/◌, ◌%◌}
 use mathlib.Core.Path.{ap, ◌∙◌}
-use borrow.Author.Rules.{rules}
 use Rattle.sessions.proofs.slots.put_slot.Goals as goal
 
 pub returns : goal.returns

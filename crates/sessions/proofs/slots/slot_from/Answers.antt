@@ -6,7 +6,6 @@ use lib.ListN.{take, drop, replicate, length-take, length-drop}
 use Rattle.memory.specs.WroteLaws.{sets-whole}
 use native.Mathlib.Omega.{arith}
 use mathlib.Core.Path.{◌≡◌, ap, ◌∙◌}
-use borrow.Author.Rules.{rules}
 use Rattle.sessions.proofs.slots.slot_from.Goals as goal
 
 pub returns : goal.returns

@@ -1,9 +1,6 @@
-use Prim.Native.Nat.{◌≤◌, ◌-◌}
-use mathlib.Core.Path.{◌≡◌, refl, sym, ◌∙◌}
-use lib.ListN.{length, drop}
+use mathlib.Core.Path.{refl, sym, ◌∙◌}
 use borrow.Author.Tests.{eq-eqb, ne_eqb}
 use borrow.Author.Rules.{rules}
-use Rattle.sessions.specs.Search.{member}
 use Rattle.sessions.specs.SearchLaws.{any_on, any_found, any_end}
 use Rattle.sessions.proofs.targets.is_member.Goals as goal
 

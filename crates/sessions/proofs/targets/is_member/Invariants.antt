@@ -1,10 +1,7 @@
 use Prim.Native.Nat.{◌≤◌, ◌-◌}
-use mathlib.Core.Path.{◌≡◌, refl, sym, ◌∙◌}
+use mathlib.Core.Path.{◌≡◌}
 use lib.ListN.{length, drop}
-use borrow.Author.Tests.{eq-eqb, ne_eqb}
-use borrow.Author.Rules.{rules}
 use Rattle.sessions.specs.Search.{member}
-use Rattle.sessions.specs.SearchLaws.{any_on, any_found, any_end}
 use Rattle.sessions.proofs.targets.is_member.Given as goal
 
 -- What is to be found stands at the place or behind it.

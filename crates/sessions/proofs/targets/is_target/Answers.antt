@@ -1,5 +1,4 @@
 use borrow.Author.Tests.{lt-ltb, le-ltb}
-use borrow.Author.Rules.{rules}
 use Rattle.sessions.proofs.targets.is_target.Goals as goal
 
 pub returns-then-node-ge-TARGETS : goal.returns-then-node-ge-TARGETS

@@ -1,7 +1,6 @@
 use Rattle.sessions.specs.Sessions.{may_command}
 use borrow.Author.Tests.{le-leb, lt-leb}
 use mathlib.Core.Path.{◌∙◌}
-use borrow.Author.Rules.{rules}
 use Rattle.sessions.proofs.targets.may_command.Goals as goal
 
 pub returns-then-priority-gt-MAX_PRIORITY : goal.returns-then-priority-gt-MAX_PRIORITY

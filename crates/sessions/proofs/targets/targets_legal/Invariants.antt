@@ -1,19 +1,10 @@
-use Prim.Native.Nat.{ℕ, ◌+◌, ◌≤◌, ◌<◌, ◌-◌}
-use mathlib.Core.Bool.{Bool, true, false, cond, ◌&&◌, false≢true}
-use mathlib.Core.List.{List, [], ◌∷◌}
-use mathlib.Core.Path.{◌≡◌, refl, sym, ◌∙◌}
-use native.Mathlib.Numerals.{add-one}
-use native.Mathlib.Omega.{arith}
-use lib.ListN.{length, take, drop, get_or, set, replicate, length-set, get_or-replicate}
-use lib.Seq.{take-suc, get_or-set_same, get_or-set_other}
-use lib.Dec.{ltb, eqb}
-use borrow.Author.Tests.{not-true, not-false, ltb-true, eqb-true, eqb-false}
-use borrow.Author.Rules.{rules}
-use Rattle.nodes.specs.Table.{in_use}
-use Rattle.sessions.specs.Search.{any, member}
-use Rattle.sessions.specs.SearchLaws.{member-last}
+use Prim.Native.Nat.{ℕ, ◌≤◌, ◌<◌, ◌-◌}
+use mathlib.Core.Bool.{Bool, false}
+use mathlib.Core.List.{List, []}
+use mathlib.Core.Path.{◌≡◌}
+use lib.ListN.{length, take, drop, get_or}
+use Rattle.sessions.specs.Search.{member}
 use Rattle.sessions.specs.Sessions.{target_count, targets_legal}
-use Rattle.sessions.specs.SessionLaws.{targets_on, targets_off, targets_twice, targets_end}
 use Rattle.sessions.proofs.targets.targets_legal.Given as goal
 
 -- The nodes that are seen are those of the indices.

@@ -1,5 +1,4 @@
 use native.Mathlib.Omega.{arith}
-use borrow.Author.Rules.{rules}
 use Rattle.text.specs.AppendedLaws.{leaves-whole, leaves_none}
 use Rattle.text.specs.Bytes.{hex2}
 use Rattle.text.proofs.bytes.append_hex2.Goals as goal

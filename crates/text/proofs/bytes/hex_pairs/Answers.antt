@@ -1,8 +1,6 @@
-use Prim.Native.Nat.{◌-◌, ◌≤◌}
 use native.Mathlib.Omega.{arith}
-use lib.ListN.{length, take}
+use lib.ListN.{take}
 use lib.Seq.{take_all, length-take-le}
-use Rattle.memory.specs.Wrote.{Wrote}
 use Rattle.memory.specs.WroteLaws.{none, then, kept}
 use Rattle.text.specs.Bytes.{hex_pairs}
 use Rattle.text.specs.BytesLaws.{hex_pairs_more, length-hex_pairs}

@@ -1,11 +1,7 @@
 use Prim.Native.Nat.{◌-◌, ◌≤◌}
-use native.Mathlib.Omega.{arith}
 use lib.ListN.{length, take}
-use lib.Seq.{take_all, length-take-le}
 use Rattle.memory.specs.Wrote.{Wrote}
-use Rattle.memory.specs.WroteLaws.{none, then, kept}
 use Rattle.text.specs.Bytes.{hex_pairs}
-use Rattle.text.specs.BytesLaws.{hex_pairs_more, length-hex_pairs}
 use Rattle.text.proofs.bytes.hex_pairs.Given as goal
 
 -- The digits of the first i bytes are stored, and nothing else is.

@@ -2,7 +2,6 @@ use Prim.Native.Nat.{◌<◌}
 use mathlib.Core.Path.{ap}
 use native.Mathlib.Omega.{arith}
 use lib.ListN.{length}
-use borrow.Author.Rules.{rules}
 use Rattle.text.specs.Text.{ascii}
 use Rattle.text.specs.AppendedLaws.{leaves_wrote}
 use Rattle.text.specs.BytesLaws.{length-bytes_word, bytes_word-none, bytes_word-some, length-hex_pairs, word_length_least}

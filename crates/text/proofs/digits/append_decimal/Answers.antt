@@ -1,5 +1,4 @@
 use native.Mathlib.Omega.{arith}
-use borrow.Author.Rules.{rules}
 use Rattle.text.specs.AppendedLaws.{leaves-whole, leaves_none}
 use Rattle.text.specs.Text.{decimal}
 use Rattle.text.specs.DecimalLaws.{decimal-some}

@@ -1,5 +1,4 @@
 use native.Mathlib.Omega.{arith}
-use borrow.Author.Rules.{rules}
 use Rattle.text.specs.AppendedLaws.{leaves-whole, leaves_none}
 use Rattle.text.specs.Text.{hex4}
 use Rattle.text.proofs.digits.append_hex4.Goals as goal

@@ -1,13 +1,8 @@
-use Prim.Native.Nat.{ℕ, ◌+◌, ◌<◌, ◌≤◌, ◌/◌, ◌%◌}
-use mathlib.Core.List.{List}
-use mathlib.Core.Path.{◌≡◌, refl, ap, ◌∙◌}
-use native.Mathlib.Omega.{arith}
-use lib.ListN.{length, set, length-set}
+use Prim.Native.Nat.{◌+◌, ◌<◌}
+use mathlib.Core.Path.{◌≡◌}
+use lib.ListN.{length}
 use lib.Seq.{sets}
-use borrow.Author.Rules.{rules}
-use Rattle.text.specs.Text.{digit, decimal}
-use Rattle.memory.specs.WroteLaws.{sets_last}
-use Rattle.text.specs.DecimalLaws.{decimal-some, decimal_few, decimal_more, length_more}
+use Rattle.text.specs.Text.{decimal}
 use Rattle.text.proofs.digits.decimal.Given as goal
 
 -- With the digits of the rest stored in front of those that are, the whole number is; `place` is where its last digit goes.

@@ -1,5 +1,4 @@
 use borrow.Author.Tests.{lt-ltb, le-ltb}
-use borrow.Author.Rules.{rules}
 use Rattle.text.specs.Text.{digit}
 use Rattle.text.proofs.digits.digit.Goals as goal
 

@@ -1,12 +1,7 @@
 use Prim.Native.Nat.{◌-◌, ◌^◌, ◌≤◌, ◌<◌}
-use mathlib.Core.Path.{◌≡◌, refl}
-use native.Mathlib.Numerals.{add-one}
-use native.Mathlib.Nat.{pow-suc, pow-le-pow_right}
-use native.Mathlib.Omega.{arith}
+use mathlib.Core.Path.{◌≡◌}
 use lib.ListN.{length}
-use borrow.Author.Rules.{rules}
 use Rattle.text.specs.Text.{decimal}
-use Rattle.text.specs.DecimalLaws.{decimal-some, decimal_above, decimal-below, decimal_short}
 use Rattle.text.proofs.digits.width.Given as goal
 
 -- The number has as many digits as counted, or more; it has more where it is not below the bound. Up to twenty are counted.

@@ -5,7 +5,6 @@ use lib.ListN.{length, length-append}
 use Rattle.text.specs.Text.{decimal}
 use Rattle.text.specs.AppendedLaws.{leaves-whole, leaves_none, fitting-first, fitting_then}
 use Rattle.text.specs.DecimalLaws.{decimal-some}
-use borrow.Author.Rules.{rules}
 use Rattle.text.proofs.numbered.append_numbered.Goals as goal
 
 pub returns-then-left-width : goal.returns-then-left-width

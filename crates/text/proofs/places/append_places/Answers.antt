@@ -1,11 +1,9 @@
 use Prim.Native.Nat.{◌+◌, ◌≤◌}
-use mathlib.Core.List.{◌++◌}
 use native.Mathlib.Omega.{arith}
 use lib.ListN.{length}
 use Rattle.text.specs.Text.{ascii, decimal}
 use Rattle.text.specs.AppendedLaws.{leaves-whole, leaves_none, fitting-first, fitting_then}
 use Rattle.text.specs.Places.{places_word}
-use borrow.Author.Rules.{rules}
 use Rattle.text.proofs.places.append_places.Goals as goal
 
 pub returns-then-room-places_width : goal.returns-then-room-places_width

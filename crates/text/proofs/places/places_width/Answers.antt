@@ -1,7 +1,6 @@
 use native.Mathlib.Omega.{arith}
 use Rattle.text.specs.DecimalLaws.{decimal_short}
 use Rattle.text.specs.PlacesLaws.{length-places_word}
-use borrow.Author.Rules.{rules}
 use Rattle.text.proofs.places.places_width.Goals as goal
 
 pub overflow_add-result : goal.overflow_add-result

@@ -1,6 +1,5 @@
 use mathlib.Core.Path.{refl}
 use native.Mathlib.Omega.{arith}
-use borrow.Author.Rules.{rules}
 use Rattle.text.specs.AppendedLaws.{leaves-whole, leaves_none}
 use Rattle.text.proofs.words.append.Goals as goal
 

@@ -1,7 +1,6 @@
 use Rattle.text.specs.Text.{ascii}
 use Rattle.report.specs.Report.{done_line}
 use Rattle.transcript.specs.Replies.{call_line}
-use borrow.Author.Rules.{rules}
 use Rattle.transcript.proofs.answers.call_line.Goals as goal
 
 pub returns-in-Done : goal.returns-in-Done

@@ -2,7 +2,6 @@ use Prim.Native.Nat.{◌-◌}
 use mathlib.Core.Path.{◌≡◌}
 use native.Mathlib.Omega.{arith}
 use Rattle.transcript.specs.Replies.{feed_line}
-use borrow.Author.Rules.{rules}
 use Rattle.transcript.proofs.answers.feed_line.Goals as goal
 
 pub returns-in-Refused : goal.returns-in-Refused

@@ -1,5 +1,4 @@
 use Rattle.transcript.specs.Replies.{outcome_line}
-use borrow.Author.Rules.{rules}
 use Rattle.transcript.proofs.answers.outcome_line.Goals as goal
 
 pub returns-in-Nothing : goal.returns-in-Nothing

@@ -1,5 +1,4 @@
 use Rattle.transcript.specs.Replies.{refusal_line}
-use borrow.Author.Rules.{rules}
 use Rattle.transcript.proofs.answers.refused_line.Goals as goal
 
 pub returns : goal.returns

@@ -2,7 +2,6 @@ use mathlib.Core.Path.{sym, ◌∙◌}
 use native.Mathlib.Omega.{arith}
 use lib.ListN.{length}
 use lib.Seq.{take_all}
-use borrow.Author.Rules.{rules}
 use Rattle.transcript.proofs.answers.reply_end.Goals as goal
 
 pub returns-then-room-len : goal.returns-then-room-len

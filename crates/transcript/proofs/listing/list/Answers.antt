@@ -2,7 +2,6 @@ use Rattle.text.specs.Text.{ascii}
 use Rattle.report.specs.State.{end_line}
 use Rattle.transcript.specs.LinesLaws.{all_one, all_then}
 use Rattle.transcript.specs.State.{table_lines}
-use borrow.Author.Rules.{rules}
 use Rattle.transcript.proofs.listing.list.Goals as goal
 
 pub returns : goal.returns

@@ -6,7 +6,6 @@ use borrow.Author.Tests.{le-leb, lt-leb}
 use Rattle.nodes.specs.Table.{record_size}
 use Rattle.transcript.specs.LinesLaws.{all_none}
 use Rattle.transcript.specs.State.{listed_lines}
-use borrow.Author.Rules.{rules}
 use Rattle.transcript.proofs.listing.list_node.Goals as goal
 
 pub returns-then-table-end : goal.returns-then-table-end

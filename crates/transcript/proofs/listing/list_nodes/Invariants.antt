@@ -1,13 +1,10 @@
-use native.Mathlib.Omega.{arith}
 use Prim.Native.Nat.{◌-◌, ◌≤◌}
-use mathlib.Core.Path.{◌≡◌, refl}
+use mathlib.Core.Path.{◌≡◌}
 use lib.ListN.{length}
 use Rattle.nodes.specs.Table.{node_count}
 use Rattle.text.specs.Appended.{Leaves}
 use Rattle.transcript.specs.Lines.{appended_all, lines_below}
-use Rattle.transcript.specs.LinesLaws.{all_none, below_more}
 use Rattle.transcript.specs.State.{listed_lines}
-use borrow.Author.Rules.{rules}
 use Rattle.transcript.proofs.listing.list_nodes.Given as goal
 
 -- The nodes below the place are listed.

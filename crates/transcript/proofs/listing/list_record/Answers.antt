@@ -1,8 +1,6 @@
 use mathlib.Core.Path.{sym, ◌∙◌}
-use borrow.Author.Tests.{not-true, not-false}
 use Rattle.transcript.specs.LinesLaws.{all_none, all_one}
 use Rattle.transcript.specs.State.{entry_lines}
-use borrow.Author.Rules.{rules}
 use Rattle.transcript.proofs.listing.list_record.Goals as goal
 
 pub returns-then-not-in_use : goal.returns-then-not-in_use

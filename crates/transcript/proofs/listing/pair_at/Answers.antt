@@ -1,4 +1,3 @@
-use borrow.Author.Rules.{rules}
 use Rattle.transcript.proofs.listing.pair_at.Goals as goal
 
 pub returns : goal.returns

@@ -2,7 +2,6 @@ use native.Mathlib.Omega.{arith}
 use Prim.Native.Nat.{◌+◌, ◌-◌, ◌*◌}
 use mathlib.Core.Path.{◌≡◌}
 use borrow.Author.Tests.{le-leb, lt-leb}
-use borrow.Author.Rules.{rules}
 use Rattle.nodes.specs.Table.{record_size}
 use Rattle.transcript.specs.LinesLaws.{all_none}
 use Rattle.transcript.specs.State.{node_lines}

@@ -1,12 +1,9 @@
 use Prim.Native.Nat.{◌-◌, ◌≤◌}
-use mathlib.Core.Path.{◌≡◌, refl}
-use native.Mathlib.Omega.{arith}
+use mathlib.Core.Path.{◌≡◌}
 use lib.ListN.{length}
-use borrow.Author.Rules.{rules}
 use Rattle.nodes.specs.Table.{node_count}
 use Rattle.text.specs.Appended.{Leaves}
 use Rattle.transcript.specs.Lines.{appended_all, lines_below}
-use Rattle.transcript.specs.LinesLaws.{all_none, below_more}
 use Rattle.transcript.specs.State.{node_lines}
 use Rattle.transcript.proofs.state.show_nodes.Given as goal
 

@@ -1,14 +1,10 @@
-use Prim.Native.Nat.{◌-◌, ◌≤◌}
 use mathlib.Core.Path.{◌≡◌, refl}
 use native.Mathlib.Omega.{arith}
-use mathlib.Core.List.{map}
-use lib.ListN.{length, get_or}
 use borrow.Author.Rules.{rules}
 use Rattle.frame.specs.Reader.{emptied, taken}
 use Rattle.rules.specs.Hub.{line_count}
 use Rattle.transcript.specs.State.{reading_lines}
-use Rattle.text.specs.Appended.{Leaves}
-use Rattle.transcript.specs.Lines.{appended_all, lines_below}
+use Rattle.transcript.specs.Lines.{lines_below}
 use Rattle.transcript.specs.LinesLaws.{all_none, below_mapped}
 use Rattle.transcript.proofs.state.show_readings.Goals as goal
 

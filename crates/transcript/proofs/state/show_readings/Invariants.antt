@@ -1,15 +1,12 @@
 use Prim.Native.Nat.{◌-◌, ◌≤◌}
-use mathlib.Core.Path.{◌≡◌, refl}
-use native.Mathlib.Omega.{arith}
+use mathlib.Core.Path.{◌≡◌}
 use mathlib.Core.List.{map}
 use lib.ListN.{length, get_or}
-use borrow.Author.Rules.{rules}
 use Rattle.frame.specs.Reader.{emptied, taken}
 use Rattle.rules.specs.Hub.{line_count}
 use Rattle.transcript.specs.State.{reading_lines}
 use Rattle.text.specs.Appended.{Leaves}
 use Rattle.transcript.specs.Lines.{appended_all, lines_below}
-use Rattle.transcript.specs.LinesLaws.{all_none, below_mapped}
 use Rattle.transcript.proofs.state.show_readings.Given as goal
 
 -- The readings below the place are shown.

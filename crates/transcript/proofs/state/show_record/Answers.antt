@@ -1,5 +1,4 @@
 use mathlib.Core.Path.{sym, ◌∙◌}
-use borrow.Author.Rules.{rules}
 use Rattle.report.specs.Report.{has_spilled}
 use Rattle.transcript.specs.LinesLaws.{all_none, all_one}
 use Rattle.transcript.specs.State.{record_lines}

@@ -1,6 +1,4 @@
 use mathlib.Core.Path.{sym, ◌∙◌}
-use borrow.Author.Rules.{rules}
-use borrow.Author.Tests.{not-true, not-false}
 use Rattle.transcript.specs.LinesLaws.{all_none, all_one}
 use Rattle.transcript.specs.State.{slot_lines}
 use Rattle.transcript.proofs.state.show_slot.Goals as goal

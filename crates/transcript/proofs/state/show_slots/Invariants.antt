@@ -1,13 +1,10 @@
-use borrow.Author.Rules.{rules}
-use Rattle.transcript.specs.LinesLaws.{all_none, below_more}
 use Rattle.transcript.specs.Lines.{appended_all, lines_below}
 use Rattle.text.specs.Appended.{Leaves}
 use Rattle.transcript.specs.State.{slot_lines}
 use Rattle.sessions.specs.Sessions.{slot_count, slot_at}
 use lib.ListN.{length}
 use Prim.Native.Nat.{◌-◌, ◌≤◌}
-use native.Mathlib.Omega.{arith}
-use mathlib.Core.Path.{◌≡◌, refl}
+use mathlib.Core.Path.{◌≡◌}
 use Rattle.transcript.proofs.state.show_slots.Given as goal
 
 -- The slots below the place are shown.

@@ -1,5 +1,4 @@
 use Rattle.transcript.proofs.world.Laws.{plays_bad}
-use borrow.Author.Rules.{rules}
 use Rattle.transcript.proofs.world.bad.Goals as goal
 
 pub returns : goal.returns

@@ -1,5 +1,4 @@
 use Rattle.transcript.proofs.world.Laws.{plays_close}
-use borrow.Author.Rules.{rules}
 use Rattle.transcript.proofs.world.close.Goals as goal
 
 pub returns : goal.returns

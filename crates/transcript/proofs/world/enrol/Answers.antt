@@ -1,5 +1,4 @@
 use Rattle.transcript.proofs.world.Laws.{plays_enrol}
-use borrow.Author.Rules.{rules}
 use Rattle.transcript.proofs.world.enrol.Goals as goal
 
 pub returns : goal.returns

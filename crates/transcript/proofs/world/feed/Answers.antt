@@ -2,7 +2,6 @@ use mathlib.Core.Path.{◌∙◌}
 use lib.ListN.{length, length-replicate}
 use Rattle.transcript.specs.Replies.{filler}
 use Rattle.transcript.proofs.world.Laws.{filled, fill_whole, filled-filler, plays_feed}
-use borrow.Author.Rules.{rules}
 use Rattle.transcript.proofs.world.feed.Goals as goal
 
 pub returns : goal.returns

@@ -1,5 +1,4 @@
 use Rattle.transcript.proofs.world.Laws.{plays_long}
-use borrow.Author.Rules.{rules}
 use Rattle.transcript.proofs.world.long.Goals as goal
 
 pub returns : goal.returns

@@ -7,7 +7,6 @@ use lib.Seq.{length-take-le}
 use Rattle.transcript.specs.LinesLaws.{all_none}
 use Rattle.transcript.specs.World.{World, start, enrol, feed, play}
 use Rattle.transcript.proofs.world.Laws.{plays_lent}
-use borrow.Author.Rules.{rules}
 use Rattle.transcript.proofs.world.made.Goals as goal
 
 pub slice_bounds-start-end-in-Start : goal.slice_bounds-start-end-in-Start

@@ -1,5 +1,4 @@
 use Rattle.transcript.proofs.world.Laws.{plays_show}
-use borrow.Author.Rules.{rules}
 use Rattle.transcript.proofs.world.show.Goals as goal
 
 pub returns : goal.returns

@@ -1,5 +1,4 @@
 use Rattle.transcript.proofs.world.Laws.{plays_start}
-use borrow.Author.Rules.{rules}
 use Rattle.transcript.proofs.world.start.Goals as goal
 
 pub returns : goal.returns
