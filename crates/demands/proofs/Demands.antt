@@ -14,7 +14,7 @@ use Rattle.line.specs.declared.Reading.{Reading}
 use Rattle.frame.specs.Frame as packet
 use Rattle.frame.specs.Frame.{Outcome, max_data, wire}
 use Rattle.frame.specs.Reader.{also, outcomes, final, State, emptied, emptied_reading, step, read, taken}
-use Rattle.frame.specs.ReaderLaws.{scan-tells, used_all}
+use Rattle.frame.proofs.ReaderLaws.{scan-tells, used_all}
 use Rattle.feeds.specs.System.{Entry, Answer, refused, told, Result, Called, serve_if, settled, decided, call, results, end_state, error_reply}
 use Rattle.feeds.specs.Marks.{answers_of, used_on, told_on}
 use Rattle.feeds.specs.Sent.{Sent, frame_of, sent}

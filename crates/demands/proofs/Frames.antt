@@ -8,10 +8,11 @@ use Rattle.frame.specs.Writer as writer
 use Rattle.frame.specs.Writer.{up_to, write, Writes}
 use Rattle.frame.specs.WireLaws.{write_done}
 use Rattle.frame.specs.Places.{InPiece}
-use Rattle.frame.specs.PlaceLaws.{refused_in_piece}
-use Rattle.frame.specs.JudgeLaws.{Accepted, judge-accepted, judge-frame, accepted-judge}
+use Rattle.frame.proofs.PlaceLaws.{refused_in_piece}
+use Rattle.frame.specs.Accepted.{Accepted}
+use Rattle.frame.proofs.JudgeLaws.{judge-accepted, judge-frame, accepted-judge}
 use Rattle.frame.specs.Reader.{outcomes, final, plain, emptied, emptied_reading, step, taken, judged}
-use Rattle.frame.specs.ReaderLaws.{by_pieces_taken}
+use Rattle.frame.proofs.ReaderLaws.{by_pieces_taken}
 use Rattle.feeds.specs.Sent.{frame_of}
 use Rattle.feeds.proofs.SentLaws.{outcomes_frames}
 use Rattle.feeds.specs.Service.{used_in, told_in}

@@ -15,7 +15,7 @@ use Rattle.frame.specs.Frame.{Numbered, low, longer, Outcome, frame, refused, he
 use Rattle.frame.specs.Answers as answers
 use Rattle.frame.specs.Line.{limit, Reachable, record_of, taken_reachable, taken_record, record_bounded}
 use Rattle.frame.specs.Reader.{State, emptied_reading, taken, read}
-use Rattle.frame.specs.ReaderLaws.{closed-number, read_told, read_reachable, read_data}
+use Rattle.frame.proofs.ReaderLaws.{closed-number, read_told, read_reachable, read_data}
 use Rattle.nodes.specs.Table.{table_size, is_node, in_use, emptied, enrolled}
 use Rattle.sessions.specs.Sessions as sessions
 use Rattle.feeds.specs.System as system

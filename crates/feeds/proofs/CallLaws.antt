@@ -8,7 +8,7 @@ use Rattle.std.proofs.Math.ListN.{length}
 use Rattle.frame.specs.Frame as packet
 use Rattle.frame.specs.Frame.{Refusal, Outcome}
 use Rattle.frame.specs.Reader.{also, onward, outcomes, scan, State, emptied, step, read}
-use Rattle.frame.specs.ReaderLaws.{step_resets, used-some, used_within}
+use Rattle.frame.proofs.ReaderLaws.{step_resets, used-some, used_within}
 use Rattle.feeds.specs.System.{System, refused, told, serve_if, settled, decided, call, error_reply, OnlyErrorReply}
 use Rattle.feeds.specs.Marks.{count_of}
 

@@ -4,7 +4,7 @@ use Rattle.std.proofs.Common.{sym, ap, ap₂, ◌∙◌, arith}
 use Rattle.std.proofs.Math.ListN.{length-map, get_or-map}
 use Rattle.frame.specs.Frame.{Outcome, refused}
 use Rattle.frame.specs.Reader.{END, outcomes, State, taken, emptied, emptied_reading, step}
-use Rattle.frame.specs.ReaderLaws.{by_pieces_taken}
+use Rattle.frame.proofs.ReaderLaws.{by_pieces_taken}
 use Rattle.feeds.specs.System.{Entry, System, Result, World, results, end_state, OnlyErrorReply}
 use Rattle.feeds.specs.Marks.{replies, answers_of, used_on, told_on, marks, marked, unmarked, nonempty}
 use Rattle.feeds.specs.Sent.{frame_of, enclosed, sent, sent_then}

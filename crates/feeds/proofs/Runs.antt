@@ -8,7 +8,7 @@ use Rattle.std.proofs.lemmas.List.{length-replicate}
 use Rattle.line.specs.declared.Reading.{Reading}
 use Rattle.frame.specs.Frame.{Outcome}
 use Rattle.frame.specs.Line.{taken_reachable, record_of, taken_record}
-use Rattle.frame.specs.ReaderLaws.{read_reachable}
+use Rattle.frame.proofs.ReaderLaws.{read_reachable}
 use Rattle.frame.specs.Reader.{State, emptied, emptied_reading, taken, read}
 use Rattle.feeds.specs.System.{Entry, System, World, Called, settled, call}
 use Rattle.feeds.specs.Service.{Lent, Got, Memory, entry_of, world_of, Promise, record_for, left_by, Run, stop, next, Feeds, entries_in, used_in}

@@ -4,9 +4,9 @@ use Rattle.std.proofs.Common.{sym, ap, ◌∙◌, append_assoc, append-nil}
 use Rattle.frame.specs.Frame.{Refusal, Numbered, refused, body, framed, wire}
 use Rattle.frame.specs.Xor.{◌⊕◌, xor_all}
 use Rattle.frame.specs.Reader.{END, escape, outcomes, final, State, emptied, step}
-use Rattle.frame.specs.ReaderLaws.{outcomes_append, final_append, final-closed, outcomes_end}
+use Rattle.frame.proofs.ReaderLaws.{outcomes_append, final_append, final-closed, outcomes_end}
 use Rattle.frame.specs.Damage.{Damage}
-use Rattle.frame.specs.DamageLaws.{damaged_refused, whole-read}
+use Rattle.frame.proofs.DamageLaws.{damaged_refused, whole-read}
 use Rattle.feeds.specs.Sent.{Sent, frame_of, enclosed, sent, sent_then}
 use Rattle.feeds.specs.System.{error_reply}
 

@@ -11,7 +11,7 @@ use Rattle.std.proofs.Math.Seq.{drop-cons, get_or-set_other, set-get_or}
 use borrow.Author.Tests.{eqb-true, eqb-false}
 use Rattle.frame.specs.Frame.{Outcome}
 use Rattle.frame.specs.Reader.{also, Scan, outcomes, final, State, emptied, step, read}
-use Rattle.frame.specs.ReaderLaws.{also_append, outcomes_append, final_append, Tells, scan-tells}
+use Rattle.frame.proofs.ReaderLaws.{also_append, outcomes_append, final_append, Tells, scan-tells}
 use Rattle.feeds.specs.System.{Entry, System, refused, Result, World, serve_if, settled, decided, call, state_for, returned, feed, results, end_state}
 use Rattle.feeds.proofs.CallLaws.{read_resets}
 use Rattle.feeds.specs.Marks.{answers_of, count_of, outcome_of, outcome_on, used_on, told_on}

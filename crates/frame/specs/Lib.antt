@@ -12,14 +12,7 @@ pub mod Damage
 pub mod FrameVectors
 pub mod PlaceVectors
 pub mod XorLaws
-pub mod JudgeLaws
+pub mod Accepted
 pub mod WireLaws
 pub mod DoubledLaws
-pub mod ReaderLaws
 pub mod EscapeLaws
-pub mod RoundTrip
-pub mod ChangeLaws
-pub mod DamageLaws
-pub mod PlaceLaws
-pub mod AnswerLaws
-pub mod EscapedForm

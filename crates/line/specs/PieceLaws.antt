@@ -1,5 +1,5 @@
 -- Reading byte by byte is cutting at every END and decoding each piece, places included.
-use Rattle.std.specs.Prelude.{ℕ, ◌+◌, ◌<◌, ◌≡◌, refl, List, [], ◌∷◌, ◌++◌, Bool, length, take, get_or, ltb, eqb}
+use Rattle.std.specs.Prelude.{ℕ, ◌+◌, ◌≡◌, refl, List, [], ◌∷◌, ◌++◌, Bool, length, ltb, eqb}
 use Rattle.std.proofs.Math.Path.{sym, ap}
 use Rattle.std.proofs.Common.{◌∙◌, append-nil, append_assoc, eqb-true, ne_eqb}
 use Rattle.std.proofs.Math.Bool.{true, false, cond}
@@ -9,8 +9,8 @@ use Rattle.std.proofs.lemmas.Bool.{eqb-false}
 use Rattle.line.specs.declared.Fault.TheVariants.{WrongEscape, TooLong}
 use Rattle.line.specs.Wire.{END, ESC, ESC-END, ESC-ESC, escape}
 use Rattle.line.specs.Scan.{also, outcomes, final}
-use Rattle.line.specs.Places.{WirePlace, wire_at, decoded_at, wire_length, on_wire, behind, behind_esc}
-use Rattle.line.specs.PlaceLaws.{wire_length_append, wire_length-one, on_wire-before, on_wire_byte}
+use Rattle.line.specs.Places.{WirePlace, wire_at, wire_length, behind, behind_esc}
+use Rattle.line.specs.PlaceLaws.{wire_length_append, wire_length-one}
 use Rattle.line.specs.Reader.{limit, refusal, wrong_escape, too_long, State, plain, escaped, skipping, emptied, Outcome, refused, decoded, inner, inside, close, step}
 use Rattle.line.specs.ReaderLaws.{cond-holds, inside_append, inside_skipping}
 use Rattle.line.specs.EveryLaws.{every_append}
@@ -188,11 +188,6 @@ final_pieces p (b ∷ w) n = final_next p b w n (final_pieces [] w tt) (final_pi
 -- it is the one escaped form of the packet's bytes, and a place in that form is a place in the piece
 pub packet_escaped : (p h : List ℕ) → NoEnd p → decode p ≡ plain h → p ≡ escape h
 packet_escaped p h n e = plain_escaped p h n (sym (decode-inside p n) ∙ e)
-
--- there its decoded byte d stands, or that byte's ESC, behind the wire bytes of those before it
-pub byte_in_piece : (p h : List ℕ) (d : ℕ) → NoEnd p → decode p ≡ plain h → d < length h
-    → (take (on_wire h (decoded_at d)).0 p ≡ escape (take d h)) × (get_or p (on_wire h (decoded_at d)).0 0 ≡ cond (eqb (get_or h d 0) END) ESC (get_or h d 0))
-byte_in_piece p h d n e x = rw (packet_escaped p h n e) (on_wire-before h d, on_wire_byte h d x)
 
 -- and its END behind all of them
 pub end_in_piece : (p h : List ℕ) → NoEnd p → decode p ≡ plain h → (behind h).wire ≡ wire_at (length p)

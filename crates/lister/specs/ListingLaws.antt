@@ -11,7 +11,7 @@ use Rattle.frame.specs.declared.FrameOutcome.TheVariants as given
 use Rattle.frame.specs.declared.FrameAt.{FrameAt}
 use Rattle.frame.specs.Frame.{Outcome, number, head}
 use Rattle.frame.specs.Reader.{END, State, Scan, taken_as, also, outcomes, final, step, read}
-use Rattle.frame.specs.ReaderLaws.{outcomes_append, final_append, Tells, scan-tells, used-some}
+use Rattle.frame.proofs.ReaderLaws.{outcomes_append, final_append, Tells, scan-tells, used-some}
 use Rattle.frame.specs.Answers.{told, Within, seen, answer_of, Answers}
 use Rattle.lister.specs.Lines.{refused_line, left_line, LINE}
 use Rattle.text.specs.Appended.{Memory, appended, Leaves}

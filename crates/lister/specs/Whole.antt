@@ -2,7 +2,7 @@
 use Rattle.std.specs.Prelude.{ℕ, suc, ◌^◌, ◌<◌, ◌≡◌, refl, List, [], ◌∷◌, ◌++◌, Bool, true, false, cond, eqb, take, drop}
 use Rattle.std.proofs.Common.{sym, ap, ap₂, ◌∙◌, arith, take_at}
 use Rattle.frame.specs.Reader.{END, State, emptied, outcomes, final, step}
-use Rattle.frame.specs.ReaderLaws.{outcomes_append, final_append}
+use Rattle.frame.proofs.ReaderLaws.{outcomes_append, final_append}
 use Rattle.lister.specs.Lines.{left_line}
 use Rattle.lister.specs.Listing.{lines, left_after, capped, listing}
 use Rattle.lister.specs.ListingLaws.{lines_append, left_append}

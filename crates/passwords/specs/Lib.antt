@@ -1,3 +1,2 @@
 pub mod Passwords
 pub mod PasswordVectors
-pub mod PasswordLaws

@@ -1,7 +1,7 @@
 -- Entering, changing and starting go by the bytes before the first zero, on both sides, and by all of these.
 use Rattle.std.specs.Prelude.{ℕ, ◌≡◌, List, length}
 use Rattle.passwords.specs.Passwords.{password_of, stored}
-use Rattle.passwords.specs.PasswordLaws.{is_same_equal, is_same-other, stored_password}
+use Rattle.passwords.proofs.PasswordLaws.{is_same_equal, is_same-other, stored_password}
 use Rattle.nodes.specs.Table.{table_size}
 use Rattle.rules.specs.declared.Hub.{Hub}
 use Rattle.rules.specs.Hub.{with_login, with_password, enter, change, start}

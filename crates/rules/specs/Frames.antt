@@ -1,7 +1,7 @@
 -- What the hub writes are frames as document 01 has them sent: END, the escaped frame, END, one behind another.
 use Rattle.std.specs.Prelude.{ℕ, ◌≤◌, ◌≡◌, List, [], ◌∷◌, length}
 use Rattle.frame.specs.Frame.{framed, max_data}
-use Rattle.frame.specs.JudgeLaws.{framed-accepted}
+use Rattle.frame.proofs.JudgeLaws.{framed-accepted}
 use Rattle.feeds.specs.Sent.{Sent, sent}
 
 -- a frame of a command and no more than 250 data bytes, as a sender writes it: one END before it

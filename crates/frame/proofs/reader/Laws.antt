@@ -20,7 +20,7 @@ use Rattle.frame.specs.Frame as Frame
 use Rattle.frame.specs.Frame.{frame, head, around, framed, judge}
 use Rattle.frame.specs.Reader.{State, taken_as, verdict, read}
 use Rattle.frame.specs.Answers.{Judges, answer_of, Answers}
-use Rattle.frame.specs.ReaderLaws.{judged_call, read-judged}
+use Rattle.frame.proofs.ReaderLaws.{judged_call, read-judged}
 use Rattle.frame.specs.Judgements.{outcome_of, Judging}
 
 drop-take : (i k : ℕ) (l : List ℕ) → drop i (take (i + k) l) ≡ take k (drop i l)

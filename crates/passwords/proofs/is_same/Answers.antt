@@ -3,7 +3,7 @@ use native.Mathlib.Omega.{arith}
 use lib.ListN.{length}
 use borrow.Author.Rules.{rules}
 use Rattle.passwords.specs.Passwords.{password_size}
-use Rattle.passwords.specs.PasswordLaws.{is_same_more, is_same_end}
+use Rattle.passwords.proofs.PasswordLaws.{is_same_more, is_same_end}
 use Rattle.passwords.proofs.is_same.Goals as goal
 
 pub loop-i-init : goal.loop-i-init

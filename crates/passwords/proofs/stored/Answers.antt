@@ -3,7 +3,7 @@ use native.Mathlib.Omega.{arith}
 use lib.ListN.{length, length-set}
 use borrow.Author.Rules.{rules}
 use Rattle.passwords.specs.Passwords.{password_size}
-use Rattle.passwords.specs.PasswordLaws.{stored_more, stored_end}
+use Rattle.passwords.proofs.PasswordLaws.{stored_more, stored_end}
 use Rattle.passwords.proofs.stored.Goals as goal
 
 pub loop-i-init : goal.loop-i-init

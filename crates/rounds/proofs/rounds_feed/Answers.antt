@@ -1,9 +1,7 @@
-use mathlib.Core.Path.{◌≡◌, refl}
-use lib.ListN.{length}
+use mathlib.Core.Path.{refl}
 use borrow.Author.Rules.{rules}
-use Rattle.requests.specs.Answers.{reading_at}
 use Rattle.rounds.specs.Rounds.{Fed}
-use Rattle.rounds.proofs.Made.{Made, made_none, made_more, made_all}
+use Rattle.rounds.proofs.Made.{made_none, made_more, made_all}
 use Rattle.rounds.proofs.rounds_feed.Goals as goal
 
 pub loop-left-init : goal.loop-left-init

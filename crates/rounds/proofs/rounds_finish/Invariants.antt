@@ -1,9 +1,8 @@
-use mathlib.Core.Path.{◌≡◌, refl}
+use mathlib.Core.Path.{◌≡◌}
 use lib.ListN.{length}
-use borrow.Author.Rules.{rules}
 use Rattle.requests.specs.Answers.{reading_at}
 use Rattle.rounds.specs.Rounds.{Sent}
-use Rattle.rounds.proofs.Made.{Made, made_none, made_more, made_all}
+use Rattle.rounds.proofs.Made.{Made}
 use Rattle.rounds.proofs.rounds_finish.Given as goal
 
 -- So many rounds are made as are not left, from what the login left; the lent memory keeps its length.

@@ -10,7 +10,7 @@ use Rattle.frame.specs.declared.Cause.{Cause}
 use Rattle.frame.specs.declared.Judged.{Judged}
 use Rattle.frame.specs.Xor.{xor_all}
 use Rattle.frame.specs.Frame.{decoded_at, byte_at, behind, number, Outcome, frame, refused, command_of, data_of, judge, too_long, too_short, wrong_protocol, below_length, beyond_length, wrong_check}
-use Rattle.frame.specs.JudgeLaws.{framed_back}
+use Rattle.frame.proofs.JudgeLaws.{framed_back}
 use Rattle.frame.specs.Answers.{Judges}
 use Rattle.frame.specs.Judgements.{refused_at}
 use Rattle.frame.proofs.checks.judge.Goals as goal

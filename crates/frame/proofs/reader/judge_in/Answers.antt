@@ -7,7 +7,7 @@ use lib.ListN.{take, drop}
 use Rattle.line.specs.Reader.{limit}
 use Rattle.frame.specs.Frame.{Refusal, refused}
 use Rattle.frame.specs.Reader.{verdict}
-use Rattle.frame.specs.AnswerLaws.{fault_refusal}
+use Rattle.frame.proofs.AnswerLaws.{fault_refusal}
 use Rattle.frame.proofs.reader.Laws.{judging}
 use Rattle.frame.proofs.reader.judge_in.Goals as goal
 

@@ -5,7 +5,7 @@ use lib.Seq.{sets, take_all}
 use borrow.Author.Tests.{eq-eqb, ne_eqb}
 use Rattle.memory.specs.WroteLaws.{sets-whole}
 use Rattle.passwords.specs.Passwords.{stored}
-use Rattle.passwords.specs.PasswordLaws.{stored-length}
+use Rattle.passwords.proofs.PasswordLaws.{stored-length}
 use Rattle.rules.specs.Hub.{password_size}
 use borrow.Author.Rules.{rules}
 use Rattle.requests.proofs.effects.change_password.Goals as goal

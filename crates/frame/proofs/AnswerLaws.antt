@@ -14,7 +14,7 @@ use Rattle.frame.specs.declared.FrameOutcome.TheVariants as given
 use Rattle.frame.specs.declared.FrameTold.{FrameTold}
 use Rattle.frame.specs.declared.view.View.{View}
 use Rattle.frame.specs.Frame.{number, refusal, Outcome, frame, refused, head, around, judge}
-use Rattle.frame.specs.JudgeLaws.{judge-accepted, judge-frame, refused_number, numbered-some, framed-accepted}
+use Rattle.frame.proofs.JudgeLaws.{judge-accepted, judge-frame, refused_number, numbered-some, framed-accepted}
 use Rattle.frame.specs.Reader.{State, Scan, taken_as, taken, read}
 use Rattle.frame.specs.Answers.{told, seen, Answers, answer_of, Within, Whole}
 use Rattle.frame.specs.Judgements.{cause_of, refusal_of}

@@ -6,12 +6,13 @@ use Rattle.std.proofs.Math.Option.{Option, some}
 use Rattle.line.specs.Reader as line
 use Rattle.line.specs.Pieces.{NoEnd}
 use Rattle.frame.specs.Frame.{Refusal, Numbered, Outcome, frame, refused, judge}
-use Rattle.frame.specs.JudgeLaws.{Accepted, judge-accepted}
+use Rattle.frame.specs.Accepted.{Accepted}
+use Rattle.frame.proofs.JudgeLaws.{judge-accepted}
 use Rattle.frame.specs.Reader.{END, escape, also, outcomes, State, plain, escaped, skipping, emptied, inside, verdict, step}
-use Rattle.frame.specs.ReaderLaws.{outcomes-closed, closed-number, accepted-closes}
+use Rattle.frame.proofs.ReaderLaws.{outcomes-closed, closed-number, accepted-closes}
 use Rattle.frame.specs.Damage.{Damage, replaced, inserted, lost, further}
 use Rattle.frame.specs.EscapeLaws.{escape-sent, escape_no_end, decoded-sent}
-use Rattle.frame.specs.ChangeLaws.{Change, less, damage_change, change_refused}
+use Rattle.frame.proofs.ChangeLaws.{Change, less, damage_change, change_refused}
 
 -- bytes without an END are damaged to bytes without one
 damage_keeps : {v w : List ℕ} → Damage v w → NoEnd v → NoEnd w

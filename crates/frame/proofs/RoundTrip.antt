@@ -8,11 +8,11 @@ use Rattle.std.proofs.Math.Seq.{append_snoc}
 use Rattle.line.specs.Reader as line
 use Rattle.line.specs.Pieces.{NoEnd, Bytes}
 use Rattle.frame.specs.Frame.{frame, max_data, framed, wire}
-use Rattle.frame.specs.JudgeLaws.{framed-accepted, framed_again}
+use Rattle.frame.proofs.JudgeLaws.{framed-accepted, framed_again}
 use Rattle.frame.specs.Reader.{END, escape, onward, outcomes, scan, State, emptied, inside, verdict, step, read}
-use Rattle.frame.specs.ReaderLaws.{closed-one, outcomes_end, read-closed, accepted-closes, closed-frame, read_data}
+use Rattle.frame.proofs.ReaderLaws.{closed-one, outcomes_end, read-closed, accepted-closes, closed-frame, read_data}
 use Rattle.frame.specs.EscapeLaws.{escape_no_end, sent-escape, sent-bytes, decoded-sent}
-use Rattle.frame.specs.DamageLaws.{whole-read}
+use Rattle.frame.proofs.DamageLaws.{whole-read}
 
 -- the wire form gives the frame, whatever follows
 pub written-outcome : (c : ℕ) (d : List ℕ) → length d ≤ max_data → (rest : List ℕ)

@@ -12,9 +12,9 @@ use Rattle.line.specs.ReaderLaws.{inside_append, inside-escape, inside_escaped, 
 use Rattle.line.specs.ReachableLaws.{decoded-full}
 use Rattle.frame.specs.Frame.{escape, Outcome, refused, too_long, judge}
 use Rattle.frame.specs.Reader.{END, also, inside, outcomes, verdict, step}
-use Rattle.frame.specs.ReaderLaws.{outcomes-closed}
+use Rattle.frame.proofs.ReaderLaws.{outcomes-closed}
 use Rattle.frame.specs.EscapeLaws.{escape_no_end}
-use Rattle.frame.specs.PlaceLaws.{too_long_line}
+use Rattle.frame.proofs.PlaceLaws.{too_long_line}
 
 -- more than 255 bytes are settled at the 256th,
 long-settled : (h : List ℕ) → limit < length h → inside emptied (escape h) ≡ skipping (line.too_long (take limit h))

@@ -4,17 +4,10 @@ use Rattle.std.proofs.Common.{sym, ap, ap₂, ◌∙◌, arith, div-add-mod', le
 use Rattle.std.proofs.Math.Arith.{digits_div, digits_mod}
 use Rattle.line.specs.Reader.{limit}
 use Rattle.line.specs.Pieces.{Bytes}
+use Rattle.frame.specs.Accepted.{Accepted}
 use Rattle.frame.specs.Xor.{xor_all}
 use Rattle.frame.specs.XorLaws.{⊕-self, ⊕-cancel, xor_all_snoc}
 use Rattle.frame.specs.Frame.{Refusal, Numbered, low, longer, Outcome, frame, refused, max_data, around, body, framed, too_long, too_short, wrong_protocol, claimed, below_length, beyond_length, wrong_check, command_of, data_of, pass, judge}
-
--- what the checks ask of a packet
-pub record Accepted (h : List ℕ) : Type 0 where
-  pub at_most : length h ≤ limit
-  pub at_least : around ≤ length h
-  pub protocol : get_or h 0 0 ≡ 0
-  pub count : claimed h ≡ length h
-  pub check : xor_all h ≡ 0
 
 -- ---- what is accepted
 

@@ -5,7 +5,8 @@ use Rattle.line.specs.PlaceLaws.{on_wire_most}
 use Rattle.line.specs.Reader as line
 use Rattle.line.specs.Reader.{limit, plain}
 use Rattle.line.specs.Pieces.{decode, NoEnd}
-use Rattle.line.specs.PieceLaws.{byte_in_piece, end_in_piece}
+use Rattle.line.proofs.PieceLaws.{byte_in_piece}
+use Rattle.line.specs.PieceLaws.{end_in_piece}
 use Rattle.frame.specs.Xor.{xor_all}
 use Rattle.line.specs.declared.WirePlace.{WirePlace}
 use Rattle.line.specs.declared.Places.{Places}

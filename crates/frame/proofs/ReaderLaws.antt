@@ -13,7 +13,7 @@ use Rattle.line.specs.ByPieces as line_pieces
 use Rattle.line.specs.Reachable.{Reachable, written}
 use Rattle.line.specs.ReachableLaws as line_reachable
 use Rattle.frame.specs.Frame.{Refusal, Numbered, low, Outcome, frame, refused, max_data, around, judge}
-use Rattle.frame.specs.JudgeLaws.{judge-accepted, refused_number, accepted_data}
+use Rattle.frame.proofs.JudgeLaws.{judge-accepted, refused_number, accepted_data}
 use Rattle.frame.specs.Reader.{END, escape, also, onward, outcomes, final, scan, State, plain, escaped, skipping, emptied, inner, inside, taken, Scan, judged, verdict, step, read}
 pub use Rattle.line.specs.ScanLaws.{also_append, outcomes_append, final_append, Tells, scan-tells, used_within, used-some, used_all}
 

@@ -5,7 +5,8 @@ use Rattle.line.specs.Wire.{END, ESC, ESC-END, ESC-ESC}
 use Rattle.frame.specs.Xor.{◌⊕◌, xor_all}
 use Rattle.frame.specs.XorLaws.{⊕-assoc, zero-⊕, ⊕-cancel, ⊕-cancel-right}
 use Rattle.frame.specs.Frame.{Refusal, Outcome, frame, refused, judge}
-use Rattle.frame.specs.JudgeLaws.{Accepted, judge-accepted}
+use Rattle.frame.specs.Accepted.{Accepted}
+use Rattle.frame.proofs.JudgeLaws.{judge-accepted}
 use Rattle.frame.specs.Damage.{Damage, replaced, inserted, lost, further}
 use Rattle.frame.specs.EscapeLaws.{Pair, end, esc, Sent, usual, pair, pair_same, esc_unusual, sent-same}
 
