@@ -1,5 +1,6 @@
--- Demands 1 and 2, and the accident behind them, of any calls of the host and the serial service that keep their promises, in any order and
--- number, each on what the last one left (Steps). Words in quotes are the papers'. Demand 3 is said so in Demand3.
+-- Demand 1, the words of demand 2, and the accident behind them, of any calls of the host and the serial service that keep their promises, in
+-- any order and number, each on what the last one left (Steps). Words in quotes are the papers'. Demand 2 is stated in proofs/Demands.antt,
+-- demand 3 in proofs/Demand3.antt.
 use Rattle.std.specs.Prelude.{ℕ, ◌≤◌, ◌<◌, ◌≡◌, List, [], ◌++◌, map, true, length, take, drop, ltb}
 use Rattle.std.proofs.Math.Option.{Option, none, some}
 use Rattle.frame.specs.declared.Written.{Written}

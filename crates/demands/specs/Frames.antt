@@ -1,4 +1,5 @@
--- "Frames are read and written exactly as the KLF 200 specification 3.18 says" (demand 2): of what the calls read and write, in document 01's words.
+-- "Frames are read and written exactly as the KLF 200 specification 3.18 says" (demand 2): the wire of a line, and what the calls write, in
+-- document 01's words. That reading is exact is stated and proved in proofs/Frames.antt: ReadExactly.
 use Rattle.std.specs.Prelude.{ℕ, ◌≤◌, ◌≡◌, List, [], ◌∷◌, ◌++◌, map, length, take, drop}
 use Rattle.std.proofs.Math.Option.{Option}
 use Rattle.frame.specs.Line.{written}

@@ -16,9 +16,9 @@ shifted : (n : ℕ) → 1 * 2 ^ (n % 8) % 256 ≡ 2 ^ (n % 8)
 shifted n = shl_exact 1 (n % 8) 8 (omega arith) (omega arith) ∙ one-mul (2 ^ (n % 8))
 
 -- a node from 200 on has no byte to be marked in
-withBit-out : (ms : List ℕ) (n : ℕ) → length ms ≤ n / 8 → with_bit ms n ≡ ms
+with_bit_out : (ms : List ℕ) (n : ℕ) → length ms ≤ n / 8 → with_bit ms n ≡ ms
 unfolding with_bit
-withBit-out ms n h = set_out ms (n / 8) _ h
+with_bit_out ms n h = set_out ms (n / 8) _ h
 
 pub loop-i-init : goal.loop-i-init
 loop-i-init c = (search rules, refl, refl)
@@ -32,7 +32,7 @@ loop-i-preserved-then-k-lt-MARKS c = (search rules, rw length-set c.loop-i.invar
 
 pub loop-i-preserved : goal.loop-i-preserved
 loop-i-preserved c =
-    let out = withBit-out c.loop-i.marks (get_or c.args.indices.now c.loop-i.i 0) (omega (arith, c.loop-i.invariant.1, c.if-k-lt-MARKS.false)) in
+    let out = with_bit_out c.loop-i.marks (get_or c.args.indices.now c.loop-i.i 0) (omega (arith, c.loop-i.invariant.1, c.if-k-lt-MARKS.false)) in
     (search rules, c.loop-i.invariant.1, c.loop-i.invariant.2 ∙ marked_on _ _ _ c.loop-i-test.true ∙ rw out)
 
 pub returns : goal.returns
