@@ -49,7 +49,7 @@ refused-requires-then-n-due c = (omega arith, c.if-n-gt-LIMIT.false)
 
 pub returns-then-n-due : goal.returns-then-n-due
 unfolding judge below_length
-returns-then-n-due c = refuses _ _ _ _ c.refused-then-n-due.ensures (rw (le-leb _ _ c.if-n-gt-LIMIT.false, le-leb _ _ c.if-n-lt-AROUND.false, eq-eqb _ _ c.if-protocol-ne0.false, lt-leb _ _ (rw c.claimed_len-due.ensures at c.if-n-due.true)) (at-end _ _))
+returns-then-n-due c = refuses _ _ _ _ c.refused-then-n-due.ensures (rw (le-leb _ _ c.if-n-gt-LIMIT.false, le-leb _ _ c.if-n-lt-AROUND.false, eq-eqb (get_or c.args.packet.now 0 0) 0 (omega arith), lt-leb _ _ (rw c.claimed_len-due.ensures at c.if-n-due.true)) (at-end _ _))
 
 pub refused-requires-then-due-n : goal.refused-requires-then-due-n
 refused-requires-then-due-n c = (omega (arith, c.if-due-n.true), omega (arith, c.if-due-n.true, c.if-n-gt-LIMIT.false))
