@@ -1,5 +1,5 @@
 // Feed and close for a caller that keeps its records by value: the record is put into a local, lent to the call, and given back beside the
-// answer. A caller of these needs no proof by hand, as one that lends a record itself does.
+// answer.
 ghost use Rattle.std.specs.Prelude.{◌≡◌};
 ghost use Rattle.rules.specs.Promises.{Closes, Feeds};
 ghost use Rattle.requests.specs.Answers.{reading_at};

@@ -205,6 +205,7 @@ mode_send_status ss t r =
 abbrev pub opened_with : List ℕ → ℕ → ℕ → List ℕ → List ℕ
 opened_with b l x nodes = with_slot b (first is_free (slots_of b)) (record { used = 1; line = l; number = x; nodes = nodes })
 
+-- the lowest free slot takes the session, its line and its nodes; where none is free, nothing changes
 abbrev pub opened : List ℕ → ℕ → ModeSend → List ℕ
 opened b l r = with_slot b (first is_free (slots_of b)) (session_slot l r)
 

@@ -20,8 +20,8 @@ refuses : (h : List ℕ) (c : Cause) (d : ℕ) (r : Judged) → r ≡ refused_at
 refuses h c d r e x = rw e (record { told = sym x; within = tt; whole = tt })
 
 -- at the END
-at-end : (h : List ℕ) (n : ℕ) → ◌≡◌ {A = Outcome} (refused (record { number = n; at = behind h })) (refused (record { number = n; at = byte_at h (decoded_at (length h)) }))
-at-end h n = rw (byte_at_end h)
+at_end : (h : List ℕ) (n : ℕ) → ◌≡◌ {A = Outcome} (refused (record { number = n; at = behind h })) (refused (record { number = n; at = byte_at h (decoded_at (length h)) }))
+at_end h n = rw (byte_at_end h)
 
 pub refused-requires : goal.refused-requires
 refused-requires c = (omega arith, omega arith)
@@ -35,7 +35,7 @@ refused-requires-then-n-lt-AROUND c = (omega arith, omega (arith, c.if-n-gt-LIMI
 
 pub returns-then-n-lt-AROUND : goal.returns-then-n-lt-AROUND
 unfolding judge too_short
-returns-then-n-lt-AROUND c = refuses _ _ _ _ c.refused-then-n-lt-AROUND.ensures (rw (le-leb _ _ c.if-n-gt-LIMIT.false, lt-leb _ _ c.if-n-lt-AROUND.true) (at-end _ _))
+returns-then-n-lt-AROUND c = refuses _ _ _ _ c.refused-then-n-lt-AROUND.ensures (rw (le-leb _ _ c.if-n-gt-LIMIT.false, lt-leb _ _ c.if-n-lt-AROUND.true) (at_end _ _))
 
 pub refused-requires-then-protocol-ne0 : goal.refused-requires-then-protocol-ne0
 refused-requires-then-protocol-ne0 c = (omega arith, omega arith)
@@ -49,7 +49,7 @@ refused-requires-then-n-due c = (omega arith, c.if-n-gt-LIMIT.false)
 
 pub returns-then-n-due : goal.returns-then-n-due
 unfolding judge below_length
-returns-then-n-due c = refuses _ _ _ _ c.refused-then-n-due.ensures (rw (le-leb _ _ c.if-n-gt-LIMIT.false, le-leb _ _ c.if-n-lt-AROUND.false, eq-eqb (get_or c.args.packet.now 0 0) 0 (omega arith), lt-leb _ _ (rw c.claimed_len-due.ensures at c.if-n-due.true)) (at-end _ _))
+returns-then-n-due c = refuses _ _ _ _ c.refused-then-n-due.ensures (rw (le-leb _ _ c.if-n-gt-LIMIT.false, le-leb _ _ c.if-n-lt-AROUND.false, eq-eqb (get_or c.args.packet.now 0 0) 0 (omega arith), lt-leb _ _ (rw c.claimed_len-due.ensures at c.if-n-due.true)) (at_end _ _))
 
 pub refused-requires-then-due-n : goal.refused-requires-then-due-n
 refused-requires-then-due-n c = (omega (arith, c.if-due-n.true), omega (arith, c.if-due-n.true, c.if-n-gt-LIMIT.false))
@@ -64,8 +64,8 @@ refused-requires-then-packet-last c = (omega arith, omega (arith, c.if-n-gt-LIMI
 pub returns-then-packet-last : goal.returns-then-packet-last
 unfolding judge wrong_check
 returns-then-packet-last c =
-    let check-due : c.xor_all.result ≡ xor_all (take (length c.args.packet.now - 1) c.args.packet.now) = c.xor_all.ensures ∙ ap (λ (n : ℕ). xor_all (take n c.args.packet.now)) (sub-zero (length c.args.packet.now - 1)) in
-    refuses _ _ _ _ c.refused-then-packet-last.ensures (rw (le-leb _ _ c.if-n-gt-LIMIT.false, le-leb _ _ c.if-n-lt-AROUND.false, eq-eqb _ _ c.if-protocol-ne0.false, le-leb _ _ (rw c.claimed_len-due.ensures at c.if-n-due.false), le-leb _ _ (rw c.claimed_len-due.ensures at c.if-due-n.false), ne_eqb _ _ (λ e. c.if-packet-last.true (e ∙ sym (check-due)))) refl)
+    let check_due : c.xor_all.result ≡ xor_all (take (length c.args.packet.now - 1) c.args.packet.now) = c.xor_all.ensures ∙ ap (λ (n : ℕ). xor_all (take n c.args.packet.now)) (sub-zero (length c.args.packet.now - 1)) in
+    refuses _ _ _ _ c.refused-then-packet-last.ensures (rw (le-leb _ _ c.if-n-gt-LIMIT.false, le-leb _ _ c.if-n-lt-AROUND.false, eq-eqb _ _ c.if-protocol-ne0.false, le-leb _ _ (rw c.claimed_len-due.ensures at c.if-n-due.false), le-leb _ _ (rw c.claimed_len-due.ensures at c.if-due-n.false), ne_eqb _ _ (λ e. c.if-packet-last.true (e ∙ sym (check_due)))) refl)
 
 pub overflow_cast-high : goal.overflow_cast-high
 overflow_cast-high c = omega (arith, c.type_inv.packet 2)
@@ -82,8 +82,8 @@ overflow_add-command c = omega (arith, c.type_inv.packet 2, c.type_inv.packet 3)
 pub returns : goal.returns
 unfolding judge
 returns c =
-    let check-due : c.xor_all.result ≡ xor_all (take (length c.args.packet.now - 1) c.args.packet.now) = c.xor_all.ensures ∙ ap (λ (n : ℕ). xor_all (take n c.args.packet.now)) (sub-zero (length c.args.packet.now - 1)) in
+    let check_due : c.xor_all.result ≡ xor_all (take (length c.args.packet.now - 1) c.args.packet.now) = c.xor_all.ensures ∙ ap (λ (n : ℕ). xor_all (take n c.args.packet.now)) (sub-zero (length c.args.packet.now - 1)) in
     let h : List ℕ = c.args.packet.now in
-    let told : frame (command_of h) (data_of h) ≡ judge h = simp (le-leb _ _ c.if-n-gt-LIMIT.false, le-leb _ _ c.if-n-lt-AROUND.false, eq-eqb _ _ c.if-protocol-ne0.false, le-leb _ _ (rw c.claimed_len-due.ensures at c.if-n-due.false), le-leb _ _ (rw c.claimed_len-due.ensures at c.if-due-n.false), eq-eqb _ _ (c.if-packet-last.false ∙ check-due)) in
+    let told : frame (command_of h) (data_of h) ≡ judge h = simp (le-leb _ _ c.if-n-gt-LIMIT.false, le-leb _ _ c.if-n-lt-AROUND.false, eq-eqb _ _ c.if-protocol-ne0.false, le-leb _ _ (rw c.claimed_len-due.ensures at c.if-n-due.false), le-leb _ _ (rw c.claimed_len-due.ensures at c.if-due-n.false), eq-eqb _ _ (c.if-packet-last.false ∙ check_due)) in
     let low : get_or h 3 0 < 256 = omega (arith, c.type_inv.packet 3) in
     record { told = told; within = (refl, omega arith, omega arith); whole = sym (framed_back h (sym told) low) }

@@ -30,8 +30,8 @@ put-b-requires c =
     let high : List ℕ = escape (c.args.command / 256 ∷ []) in
     let low : List ℕ = escape (c.args.command % 256 ∷ []) in
     let fits : c.args.start + (1 + length len + length high + length low) ≤ length c.args.room.now = omega (arith, c.requires.1, head-length c.args.command c.args.n) in
-    let wrote-len : Wrote c.args.room.now c.args.start ((0 ∷ []) ++ len) c.put-a.new.room c.put-a.result = then (one _ _ _) c.put-a.ensures in
-    let w = wrote-len in
+    let wrote_len : Wrote c.args.room.now c.args.start ((0 ∷ []) ++ len) c.put-a.new.room c.put-a.result = then (one _ _ _) c.put-a.ensures in
+    let w = wrote_len in
     omega (arith, kept w, simp length-append at w.place, fits)
 
 pub put-requires : goal.put-requires
@@ -40,9 +40,9 @@ put-requires c =
     let high : List ℕ = escape (c.args.command / 256 ∷ []) in
     let low : List ℕ = escape (c.args.command % 256 ∷ []) in
     let fits : c.args.start + (1 + length len + length high + length low) ≤ length c.args.room.now = omega (arith, c.requires.1, head-length c.args.command c.args.n) in
-    let wrote-len : Wrote c.args.room.now c.args.start ((0 ∷ []) ++ len) c.put-a.new.room c.put-a.result = then (one _ _ _) c.put-a.ensures in
-    let wrote-high : Wrote c.args.room.now c.args.start ((0 ∷ []) ++ len ++ high) c.put-b.new.room c.put-b.result = then (wrote-len) c.put-b.ensures in
-    let w = wrote-high in
+    let wrote_len : Wrote c.args.room.now c.args.start ((0 ∷ []) ++ len) c.put-a.new.room c.put-a.result = then (one _ _ _) c.put-a.ensures in
+    let wrote_high : Wrote c.args.room.now c.args.start ((0 ∷ []) ++ len ++ high) c.put-b.new.room c.put-b.result = then (wrote_len) c.put-b.ensures in
+    let w = wrote_high in
     omega (arith, kept w, simp length-append at w.place, fits)
 
 pub shape_of-room : goal.shape_of-room
@@ -50,17 +50,17 @@ shape_of-room c =
     let len : List ℕ = escape ((c.args.n + 3) ∷ []) in
     let high : List ℕ = escape (c.args.command / 256 ∷ []) in
     let low : List ℕ = escape (c.args.command % 256 ∷ []) in
-    let wrote-len : Wrote c.args.room.now c.args.start ((0 ∷ []) ++ len) c.put-a.new.room c.put-a.result = then (one _ _ _) c.put-a.ensures in
-    let wrote-high : Wrote c.args.room.now c.args.start ((0 ∷ []) ++ len ++ high) c.put-b.new.room c.put-b.result = then (wrote-len) c.put-b.ensures in
-    let wrote-low : Wrote c.args.room.now c.args.start ((0 ∷ []) ++ len ++ high ++ low) c.put.new.room c.put.result = then (wrote-high) c.put.ensures in
-    kept (wrote-low)
+    let wrote_len : Wrote c.args.room.now c.args.start ((0 ∷ []) ++ len) c.put-a.new.room c.put-a.result = then (one _ _ _) c.put-a.ensures in
+    let wrote_high : Wrote c.args.room.now c.args.start ((0 ∷ []) ++ len ++ high) c.put-b.new.room c.put-b.result = then (wrote_len) c.put-b.ensures in
+    let wrote_low : Wrote c.args.room.now c.args.start ((0 ∷ []) ++ len ++ high ++ low) c.put.new.room c.put.result = then (wrote_high) c.put.ensures in
+    kept (wrote_low)
 
 pub returns : goal.returns
 returns c =
     let len : List ℕ = escape ((c.args.n + 3) ∷ []) in
     let high : List ℕ = escape (c.args.command / 256 ∷ []) in
     let low : List ℕ = escape (c.args.command % 256 ∷ []) in
-    let wrote-len : Wrote c.args.room.now c.args.start ((0 ∷ []) ++ len) c.put-a.new.room c.put-a.result = then (one _ _ _) c.put-a.ensures in
-    let wrote-high : Wrote c.args.room.now c.args.start ((0 ∷ []) ++ len ++ high) c.put-b.new.room c.put-b.result = then (wrote-len) c.put-b.ensures in
-    let wrote-low : Wrote c.args.room.now c.args.start ((0 ∷ []) ++ len ++ high ++ low) c.put.new.room c.put.result = then (wrote-high) c.put.ensures in
-    rw head_parts (wrote-low)
+    let wrote_len : Wrote c.args.room.now c.args.start ((0 ∷ []) ++ len) c.put-a.new.room c.put-a.result = then (one _ _ _) c.put-a.ensures in
+    let wrote_high : Wrote c.args.room.now c.args.start ((0 ∷ []) ++ len ++ high) c.put-b.new.room c.put-b.result = then (wrote_len) c.put-b.ensures in
+    let wrote_low : Wrote c.args.room.now c.args.start ((0 ∷ []) ++ len ++ high ++ low) c.put.new.room c.put.result = then (wrote_high) c.put.ensures in
+    rw head_parts (wrote_low)

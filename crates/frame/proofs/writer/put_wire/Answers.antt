@@ -33,8 +33,8 @@ put_all-b-requires c =
     let payload : List ℕ = c.args.payload.now in
     let head : List ℕ = head_of command (length payload) in
     let fits : c.args.start + (length (escape head) + length (escape payload) + length (escape (check command payload ∷ [])) + 2) ≤ length c.args.room.now = omega (arith, c.requires.1, wire-length command payload) in
-    let wrote-head : Wrote c.args.room.now c.args.start ((END ∷ []) ++ escape (head)) c.put_head-a.new.room c.put_head-a.result = then (one _ _ _) c.put_head-a.ensures in
-    let w = wrote-head in
+    let wrote_head : Wrote c.args.room.now c.args.start ((END ∷ []) ++ escape (head)) c.put_head-a.new.room c.put_head-a.result = then (one _ _ _) c.put_head-a.ensures in
+    let w = wrote_head in
     omega (arith, kept w, simp length-append at w.place, fits)
 
 pub put-e-requires : goal.put-e-requires
@@ -43,9 +43,9 @@ put-e-requires c =
     let payload : List ℕ = c.args.payload.now in
     let head : List ℕ = head_of command (length payload) in
     let fits : c.args.start + (length (escape head) + length (escape payload) + length (escape (check command payload ∷ [])) + 2) ≤ length c.args.room.now = omega (arith, c.requires.1, wire-length command payload) in
-    let wrote-head : Wrote c.args.room.now c.args.start ((END ∷ []) ++ escape (head)) c.put_head-a.new.room c.put_head-a.result = then (one _ _ _) c.put_head-a.ensures in
-    let wrote-payload : Wrote c.args.room.now c.args.start ((END ∷ []) ++ escape (head) ++ escape (payload)) c.put_all-b.new.room c.put_all-b.result = then (wrote-head) c.put_all-b.ensures in
-    let w = wrote-payload in
+    let wrote_head : Wrote c.args.room.now c.args.start ((END ∷ []) ++ escape (head)) c.put_head-a.new.room c.put_head-a.result = then (one _ _ _) c.put_head-a.ensures in
+    let wrote_payload : Wrote c.args.room.now c.args.start ((END ∷ []) ++ escape (head) ++ escape (payload)) c.put_all-b.new.room c.put_all-b.result = then (wrote_head) c.put_all-b.ensures in
+    let w = wrote_payload in
     let e : length (escape (c.check_of-check.result ∷ [])) ≡ length (escape (check (command) (payload) ∷ [])) = ap (λ (n : ℕ). length (escape (n ∷ []))) c.check_of-check.ensures in
     omega (arith, kept w, simp length-append at w.place, fits)
 
@@ -55,10 +55,10 @@ bounds-room-e c =
     let payload : List ℕ = c.args.payload.now in
     let head : List ℕ = head_of command (length payload) in
     let fits : c.args.start + (length (escape head) + length (escape payload) + length (escape (check command payload ∷ [])) + 2) ≤ length c.args.room.now = omega (arith, c.requires.1, wire-length command payload) in
-    let wrote-head : Wrote c.args.room.now c.args.start ((END ∷ []) ++ escape (head)) c.put_head-a.new.room c.put_head-a.result = then (one _ _ _) c.put_head-a.ensures in
-    let wrote-payload : Wrote c.args.room.now c.args.start ((END ∷ []) ++ escape (head) ++ escape (payload)) c.put_all-b.new.room c.put_all-b.result = then (wrote-head) c.put_all-b.ensures in
-    let wrote-check : Wrote c.args.room.now c.args.start ((END ∷ []) ++ escape (head) ++ escape (payload) ++ escape (check (command) (payload) ∷ [])) c.put-e.new.room c.put-e.result = then (wrote-payload) (rw c.check_of-check.ensures at c.put-e.ensures) in
-    let w = wrote-check in
+    let wrote_head : Wrote c.args.room.now c.args.start ((END ∷ []) ++ escape (head)) c.put_head-a.new.room c.put_head-a.result = then (one _ _ _) c.put_head-a.ensures in
+    let wrote_payload : Wrote c.args.room.now c.args.start ((END ∷ []) ++ escape (head) ++ escape (payload)) c.put_all-b.new.room c.put_all-b.result = then (wrote_head) c.put_all-b.ensures in
+    let wrote_check : Wrote c.args.room.now c.args.start ((END ∷ []) ++ escape (head) ++ escape (payload) ++ escape (check (command) (payload) ∷ [])) c.put-e.new.room c.put-e.result = then (wrote_payload) (rw c.check_of-check.ensures at c.put-e.ensures) in
+    let w = wrote_check in
     omega (arith, kept w, simp length-append at w.place, fits)
 
 pub overflow_add-result : goal.overflow_add-result
@@ -67,10 +67,10 @@ overflow_add-result c =
     let payload : List ℕ = c.args.payload.now in
     let head : List ℕ = head_of command (length payload) in
     let fits : c.args.start + (length (escape head) + length (escape payload) + length (escape (check command payload ∷ [])) + 2) ≤ length c.args.room.now = omega (arith, c.requires.1, wire-length command payload) in
-    let wrote-head : Wrote c.args.room.now c.args.start ((END ∷ []) ++ escape (head)) c.put_head-a.new.room c.put_head-a.result = then (one _ _ _) c.put_head-a.ensures in
-    let wrote-payload : Wrote c.args.room.now c.args.start ((END ∷ []) ++ escape (head) ++ escape (payload)) c.put_all-b.new.room c.put_all-b.result = then (wrote-head) c.put_all-b.ensures in
-    let wrote-check : Wrote c.args.room.now c.args.start ((END ∷ []) ++ escape (head) ++ escape (payload) ++ escape (check (command) (payload) ∷ [])) c.put-e.new.room c.put-e.result = then (wrote-payload) (rw c.check_of-check.ensures at c.put-e.ensures) in
-    let w = wrote-check in
+    let wrote_head : Wrote c.args.room.now c.args.start ((END ∷ []) ++ escape (head)) c.put_head-a.new.room c.put_head-a.result = then (one _ _ _) c.put_head-a.ensures in
+    let wrote_payload : Wrote c.args.room.now c.args.start ((END ∷ []) ++ escape (head) ++ escape (payload)) c.put_all-b.new.room c.put_all-b.result = then (wrote_head) c.put_all-b.ensures in
+    let wrote_check : Wrote c.args.room.now c.args.start ((END ∷ []) ++ escape (head) ++ escape (payload) ++ escape (check (command) (payload) ∷ [])) c.put-e.new.room c.put-e.result = then (wrote_payload) (rw c.check_of-check.ensures at c.put-e.ensures) in
+    let w = wrote_check in
     omega (arith, kept w, simp length-append at w.place, fits)
 
 pub shape_of-room : goal.shape_of-room
@@ -78,17 +78,17 @@ shape_of-room c =
     let command : ℕ = c.args.command in
     let payload : List ℕ = c.args.payload.now in
     let head : List ℕ = head_of command (length payload) in
-    let wrote-head : Wrote c.args.room.now c.args.start ((END ∷ []) ++ escape (head)) c.put_head-a.new.room c.put_head-a.result = then (one _ _ _) c.put_head-a.ensures in
-    let wrote-payload : Wrote c.args.room.now c.args.start ((END ∷ []) ++ escape (head) ++ escape (payload)) c.put_all-b.new.room c.put_all-b.result = then (wrote-head) c.put_all-b.ensures in
-    let wrote-check : Wrote c.args.room.now c.args.start ((END ∷ []) ++ escape (head) ++ escape (payload) ++ escape (check (command) (payload) ∷ [])) c.put-e.new.room c.put-e.result = then (wrote-payload) (rw c.check_of-check.ensures at c.put-e.ensures) in
-    kept (then (wrote-check) (one _ _ _))
+    let wrote_head : Wrote c.args.room.now c.args.start ((END ∷ []) ++ escape (head)) c.put_head-a.new.room c.put_head-a.result = then (one _ _ _) c.put_head-a.ensures in
+    let wrote_payload : Wrote c.args.room.now c.args.start ((END ∷ []) ++ escape (head) ++ escape (payload)) c.put_all-b.new.room c.put_all-b.result = then (wrote_head) c.put_all-b.ensures in
+    let wrote_check : Wrote c.args.room.now c.args.start ((END ∷ []) ++ escape (head) ++ escape (payload) ++ escape (check (command) (payload) ∷ [])) c.put-e.new.room c.put-e.result = then (wrote_payload) (rw c.check_of-check.ensures at c.put-e.ensures) in
+    kept (then (wrote_check) (one _ _ _))
 
 pub returns : goal.returns
 returns c =
     let command : ℕ = c.args.command in
     let payload : List ℕ = c.args.payload.now in
     let head : List ℕ = head_of command (length payload) in
-    let wrote-head : Wrote c.args.room.now c.args.start ((END ∷ []) ++ escape (head)) c.put_head-a.new.room c.put_head-a.result = then (one _ _ _) c.put_head-a.ensures in
-    let wrote-payload : Wrote c.args.room.now c.args.start ((END ∷ []) ++ escape (head) ++ escape (payload)) c.put_all-b.new.room c.put_all-b.result = then (wrote-head) c.put_all-b.ensures in
-    let wrote-check : Wrote c.args.room.now c.args.start ((END ∷ []) ++ escape (head) ++ escape (payload) ++ escape (check (command) (payload) ∷ [])) c.put-e.new.room c.put-e.result = then (wrote-payload) (rw c.check_of-check.ensures at c.put-e.ensures) in
-    rw wire_parts (then (wrote-check) (one _ _ _))
+    let wrote_head : Wrote c.args.room.now c.args.start ((END ∷ []) ++ escape (head)) c.put_head-a.new.room c.put_head-a.result = then (one _ _ _) c.put_head-a.ensures in
+    let wrote_payload : Wrote c.args.room.now c.args.start ((END ∷ []) ++ escape (head) ++ escape (payload)) c.put_all-b.new.room c.put_all-b.result = then (wrote_head) c.put_all-b.ensures in
+    let wrote_check : Wrote c.args.room.now c.args.start ((END ∷ []) ++ escape (head) ++ escape (payload) ++ escape (check (command) (payload) ∷ [])) c.put-e.new.room c.put-e.result = then (wrote_payload) (rw c.check_of-check.ensures at c.put-e.ensures) in
+    rw wire_parts (then (wrote_check) (one _ _ _))

@@ -23,8 +23,8 @@ overflow_add-result-2 c =
     let command : ℕ = c.args.command in
     let payload : List ℕ = c.args.payload.now in
     let fits : length (wire command payload) ≤ room_for_any = wire_fits command payload c.requires in
-    let check-len : c.width.result ≡ length (escape (check (command) (payload) ∷ [])) = c.width.ensures ∙ ap (λ (n : ℕ). length (escape (n ∷ []))) c.check_of.ensures in
-    let whole : c.head_len.result + c.escaped_len.result + c.width.result + 2 ≡ length (wire (command) (payload)) = omega (arith, c.head_len.ensures, c.escaped_len.ensures, check-len, wire-length (command) (payload)) in
+    let check_len : c.width.result ≡ length (escape (check (command) (payload) ∷ [])) = c.width.ensures ∙ ap (λ (n : ℕ). length (escape (n ∷ []))) c.check_of.ensures in
+    let whole : c.head_len.result + c.escaped_len.result + c.width.result + 2 ≡ length (wire (command) (payload)) = omega (arith, c.head_len.ensures, c.escaped_len.ensures, check_len, wire-length (command) (payload)) in
     omega (arith, whole, fits)
 
 pub overflow_add-result-3 : goal.overflow_add-result-3
@@ -33,8 +33,8 @@ overflow_add-result-3 c =
     let command : ℕ = c.args.command in
     let payload : List ℕ = c.args.payload.now in
     let fits : length (wire command payload) ≤ room_for_any = wire_fits command payload c.requires in
-    let check-len : c.width.result ≡ length (escape (check (command) (payload) ∷ [])) = c.width.ensures ∙ ap (λ (n : ℕ). length (escape (n ∷ []))) c.check_of.ensures in
-    let whole : c.head_len.result + c.escaped_len.result + c.width.result + 2 ≡ length (wire (command) (payload)) = omega (arith, c.head_len.ensures, c.escaped_len.ensures, check-len, wire-length (command) (payload)) in
+    let check_len : c.width.result ≡ length (escape (check (command) (payload) ∷ [])) = c.width.ensures ∙ ap (λ (n : ℕ). length (escape (n ∷ []))) c.check_of.ensures in
+    let whole : c.head_len.result + c.escaped_len.result + c.width.result + 2 ≡ length (wire (command) (payload)) = omega (arith, c.head_len.ensures, c.escaped_len.ensures, check_len, wire-length (command) (payload)) in
     omega (arith, whole, fits)
 
 pub returns : goal.returns
@@ -42,6 +42,6 @@ unfolding wire_length
 returns c =
     let command : ℕ = c.args.command in
     let payload : List ℕ = c.args.payload.now in
-    let check-len : c.width.result ≡ length (escape (check (command) (payload) ∷ [])) = c.width.ensures ∙ ap (λ (n : ℕ). length (escape (n ∷ []))) c.check_of.ensures in
-    let whole : c.head_len.result + c.escaped_len.result + c.width.result + 2 ≡ length (wire (command) (payload)) = omega (arith, c.head_len.ensures, c.escaped_len.ensures, check-len, wire-length (command) (payload)) in
+    let check_len : c.width.result ≡ length (escape (check (command) (payload) ∷ [])) = c.width.ensures ∙ ap (λ (n : ℕ). length (escape (n ∷ []))) c.check_of.ensures in
+    let whole : c.head_len.result + c.escaped_len.result + c.width.result + 2 ≡ length (wire (command) (payload)) = omega (arith, c.head_len.ensures, c.escaped_len.ensures, check_len, wire-length (command) (payload)) in
     whole

@@ -20,10 +20,10 @@ fit : (f : FaultAt) → decoded_fits f.fault f.at.decoded ≡ true → possible 
 unfolding possible
 fit f e = rw e
 
-fits-within : (k : Fault) (d : DecodedPlace) → decoded_fits k d ≡ true → d.0 ≤ limit
+fits_within : (k : Fault) (d : DecodedPlace) → decoded_fits k d ≡ true → d.0 ≤ limit
 unfolding decoded_fits
-fits-within WrongEscape d e = leb-true d.0 limit e
-fits-within TooLong d e = omega (arith, eqb-true d.0 limit e)
+fits_within WrongEscape d e = leb-true d.0 limit e
+fits_within TooLong d e = omega (arith, eqb-true d.0 limit e)
 
 pub returns-then-not-decoded_fits : goal.returns-then-not-decoded_fits
 returns-then-not-decoded_fits c = sym (unfit _ (sym c.decoded_fits.ensures ∙ c.if-not-decoded_fits.true))
@@ -31,12 +31,12 @@ returns-then-not-decoded_fits c = sym (unfit _ (sym c.decoded_fits.ensures ∙ c
 pub least_wire-least-requires : goal.least_wire-least-requires
 least_wire-least-requires c =
     let fitting : decoded_fits c.args.fault.fault c.args.fault.at.decoded ≡ true = sym c.decoded_fits.ensures ∙ c.if-not-decoded_fits.false in
-    fits-within _ _ fitting
+    fits_within _ _ fitting
 
 pub most_wire-most-requires : goal.most_wire-most-requires
 most_wire-most-requires c =
     let fitting : decoded_fits c.args.fault.fault c.args.fault.at.decoded ≡ true = sym c.decoded_fits.ensures ∙ c.if-not-decoded_fits.false in
-    fits-within _ _ fitting
+    fits_within _ _ fitting
 
 pub returns : goal.returns
 returns c =

@@ -12,18 +12,18 @@ use Rattle.line.specs.Step.{acted, closing}
 use Rattle.line.proofs.step.close.Goals as goal
 
 -- an END among whole bytes
-closed-empty : (h : List ℕ) (n : ℕ) → length h ≡ n → n ≡ 0 → acted h (Keep Plain) ≡ closing h
+closed_empty : (h : List ℕ) (n : ℕ) → length h ≡ n → n ≡ 0 → acted h (Keep Plain) ≡ closing h
 unfolding close
-closed-empty [] n e z = refl
-closed-empty (b ∷ h) n e z = absurd (omega arith)
+closed_empty [] n e z = refl
+closed_empty (b ∷ h) n e z = absurd (omega arith)
 
-closed-packet : (h : List ℕ) (n : ℕ) → length h ≡ n → (n ≡ 0 → ⊥) → acted h (Give (Packet n)) ≡ closing h
+closed_packet : (h : List ℕ) (n : ℕ) → length h ≡ n → (n ≡ 0 → ⊥) → acted h (Give (Packet n)) ≡ closing h
 unfolding close
-closed-packet [] n e z = absurd (z (sym e))
-closed-packet (b ∷ h) n e z = rw (← e, take-length h)
+closed_packet [] n e z = absurd (z (sym e))
+closed_packet (b ∷ h) n e z = rw (← e, take-length h)
 
 pub returns-then-count-eq0 : goal.returns-then-count-eq0
-returns-then-count-eq0 c = record { act = λ h e. closed-empty h _ e c.if-count-eq0.true; fits = tt }
+returns-then-count-eq0 c = record { act = λ h e. closed_empty h _ e c.if-count-eq0.true; fits = tt }
 
 pub returns : goal.returns
-returns c = record { act = λ h e. closed-packet h _ e c.if-count-eq0.false; fits = omega arith }
+returns c = record { act = λ h e. closed_packet h _ e c.if-count-eq0.false; fits = omega arith }

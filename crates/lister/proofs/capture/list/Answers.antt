@@ -26,19 +26,19 @@ returns-then-out-written-lt-LINE c =
 
 pub overflow_add-at : goal.overflow_add-at
 overflow_add-at c =
-    let rest-used : MoreUsed (taken_as c.args.reading.bytes c.taken_cursor-cursor.result.count c.taken_cursor-cursor.result.mode) c.args.wire.now c.loop-at.at c.read_in-told.new.bytes c.read_in-told.result = more_used _ _ _ _ _ _ c.loop-at-test.true c.loop-at.invariant.state c.read_in-told.ensures in
-    let x = rest-used in omega (arith, x.within)
+    let rest_used : MoreUsed (taken_as c.args.reading.bytes c.taken_cursor-cursor.result.count c.taken_cursor-cursor.result.mode) c.args.wire.now c.loop-at.at c.read_in-told.new.bytes c.read_in-told.result = more_used _ _ _ _ _ _ c.loop-at-test.true c.loop-at.invariant.state c.read_in-told.ensures in
+    let x = rest_used in omega (arith, x.within)
 
 pub loop-at-smaller : goal.loop-at-smaller
 loop-at-smaller c =
-    let rest-used : MoreUsed (taken_as c.args.reading.bytes c.taken_cursor-cursor.result.count c.taken_cursor-cursor.result.mode) c.args.wire.now c.loop-at.at c.read_in-told.new.bytes c.read_in-told.result = more_used _ _ _ _ _ _ c.loop-at-test.true c.loop-at.invariant.state c.read_in-told.ensures in
-    let x = rest-used in omega (arith, x.within, x.some)
+    let rest_used : MoreUsed (taken_as c.args.reading.bytes c.taken_cursor-cursor.result.count c.taken_cursor-cursor.result.mode) c.args.wire.now c.loop-at.at c.read_in-told.new.bytes c.read_in-told.result = more_used _ _ _ _ _ _ c.loop-at-test.true c.loop-at.invariant.state c.read_in-told.ensures in
+    let x = rest_used in omega (arith, x.within, x.some)
 
 pub loop-at-preserved : goal.loop-at-preserved
 loop-at-preserved c =
-    let rest-used : MoreUsed (taken_as c.args.reading.bytes c.taken_cursor-cursor.result.count c.taken_cursor-cursor.result.mode) c.args.wire.now c.loop-at.at c.read_in-told.new.bytes c.read_in-told.result = more_used _ _ _ _ _ _ c.loop-at-test.true c.loop-at.invariant.state c.read_in-told.ensures in
+    let rest_used : MoreUsed (taken_as c.args.reading.bytes c.taken_cursor-cursor.result.count c.taken_cursor-cursor.result.mode) c.args.wire.now c.loop-at.at c.read_in-told.new.bytes c.read_in-told.result = more_used _ _ _ _ _ _ c.loop-at-test.true c.loop-at.invariant.state c.read_in-told.ensures in
     let g = c.loop-at.invariant in
-    going_more g (rest-used) (omega (arith, g.fits, kept g.wrote, c.if-out-written-lt-LINE.false)) c.outcome_line-written.ensures
+    going_more g (rest_used) (omega (arith, g.fits, kept g.wrote, c.if-out-written-lt-LINE.false)) c.outcome_line-written.ensures
 
 pub answer-requires-2 : goal.answer-requires-2
 answer-requires-2 c = c.loop-at.invariant.within

@@ -17,14 +17,14 @@ returns-then-is_same c = rw (same_equal c.args.text.now (45 ∷ []) (sym c.is_sa
 pub returns-then-text-eq0 : goal.returns-then-text-eq0
 unfolding bytes is_bytes ascii
 returns-then-text-eq0 c =
-    let no-dash : same c.args.text.now (45 ∷ []) ≡ false = sym c.is_same.ensures ∙ c.if-is_same.false in
-    rw (no-dash, le-ltb 0 (length c.args.text.now) (omega arith))
+    let no_dash : same c.args.text.now (45 ∷ []) ≡ false = sym c.is_same.ensures ∙ c.if-is_same.false in
+    rw (no_dash, le-ltb 0 (length c.args.text.now) (omega arith))
 
 pub returns-then-text-ne0 : goal.returns-then-text-ne0
 unfolding bytes is_bytes ascii
 returns-then-text-ne0 c =
-    let no-dash : same c.args.text.now (45 ∷ []) ≡ false = sym c.is_same.ensures ∙ c.if-is_same.false in
-    rw (no-dash, lt-ltb 0 (length c.args.text.now) (omega arith), ne_eqb _ _ c.if-text-ne0.true)
+    let no_dash : same c.args.text.now (45 ∷ []) ≡ false = sym c.is_same.ensures ∙ c.if-is_same.false in
+    rw (no_dash, lt-ltb 0 (length c.args.text.now) (omega arith), ne_eqb _ _ c.if-text-ne0.true)
 
 pub store_pairs-requires : goal.store_pairs-requires
 store_pairs-requires c = (c.requires, c.if-text-ne0.false)
@@ -32,5 +32,5 @@ store_pairs-requires c = (c.requires, c.if-text-ne0.false)
 pub returns : goal.returns
 unfolding bytes is_bytes ascii
 returns c =
-    let no-dash : same c.args.text.now (45 ∷ []) ≡ false = sym c.is_same.ensures ∙ c.if-is_same.false in
-    rw (no-dash, lt-ltb 0 (length c.args.text.now) (omega arith), eq-eqb _ _ c.if-text-ne0.false) c.store_pairs.ensures
+    let no_dash : same c.args.text.now (45 ∷ []) ≡ false = sym c.is_same.ensures ∙ c.if-is_same.false in
+    rw (no_dash, lt-ltb 0 (length c.args.text.now) (omega arith), eq-eqb _ _ c.if-text-ne0.false) c.store_pairs.ensures

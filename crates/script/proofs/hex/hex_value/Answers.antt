@@ -23,9 +23,9 @@ overflow_sub-result-then-is_between-2 c =
 pub returns-then-is_between-2 : goal.returns-then-is_between-2
 unfolding hex_value
 returns-then-is_between-2 c =
-    let no-decimal : between 48 57 c.args.digit ≡ false = sym c.is_between.ensures ∙ c.if-is_between.false in
+    let no_decimal : between 48 57 c.args.digit ≡ false = sym c.is_between.ensures ∙ c.if-is_between.false in
     let capital : between 65 70 c.args.digit ≡ true = sym c.is_between-2.ensures ∙ c.if-is_between-2.true in
-    rw (no-decimal, capital)
+    rw (no_decimal, capital)
 
 pub overflow_sub-result-then-is_between-3 : goal.overflow_sub-result-then-is_between-3
 overflow_sub-result-then-is_between-3 c =
@@ -35,15 +35,15 @@ overflow_sub-result-then-is_between-3 c =
 pub returns-then-is_between-3 : goal.returns-then-is_between-3
 unfolding hex_value
 returns-then-is_between-3 c =
-    let no-decimal : between 48 57 c.args.digit ≡ false = sym c.is_between.ensures ∙ c.if-is_between.false in
-    let no-capital : between 65 70 c.args.digit ≡ false = sym c.is_between-2.ensures ∙ c.if-is_between-2.false in
+    let no_decimal : between 48 57 c.args.digit ≡ false = sym c.is_between.ensures ∙ c.if-is_between.false in
+    let no_capital : between 65 70 c.args.digit ≡ false = sym c.is_between-2.ensures ∙ c.if-is_between-2.false in
     let small : between 97 102 c.args.digit ≡ true = sym c.is_between-3.ensures ∙ c.if-is_between-3.true in
-    rw (no-decimal, no-capital, small)
+    rw (no_decimal, no_capital, small)
 
 pub returns : goal.returns
 unfolding hex_value
 returns c =
-    let no-decimal : between 48 57 c.args.digit ≡ false = sym c.is_between.ensures ∙ c.if-is_between.false in
-    let no-capital : between 65 70 c.args.digit ≡ false = sym c.is_between-2.ensures ∙ c.if-is_between-2.false in
-    let no-small : between 97 102 c.args.digit ≡ false = sym c.is_between-3.ensures ∙ c.if-is_between-3.false in
-    rw (no-decimal, no-capital, no-small)
+    let no_decimal : between 48 57 c.args.digit ≡ false = sym c.is_between.ensures ∙ c.if-is_between.false in
+    let no_capital : between 65 70 c.args.digit ≡ false = sym c.is_between-2.ensures ∙ c.if-is_between-2.false in
+    let no_small : between 97 102 c.args.digit ≡ false = sym c.is_between-3.ensures ∙ c.if-is_between-3.false in
+    rw (no_decimal, no_capital, no_small)

@@ -12,8 +12,8 @@ use Rattle.script.specs.ByteLaws.{pair_on, pair_not, pair_byte, hex_end, length_
 use Rattle.script.proofs.hex.store_pairs.Goals as goal
 
 -- what was stored at the front is the front
-front-is : {l m vs : List ℕ} {n : ℕ} → Wrote l 0 vs m n → n ≤ length l → take n m ≡ vs
-front-is {l} {m} {vs} {n} w h = ap (take n) (front_to w h) ∙ take_at vs (drop n l) n (omega (arith, w.place))
+front_is : {l m vs : List ℕ} {n : ℕ} → Wrote l 0 vs m n → n ≤ length l → take n m ≡ vs
+front_is {l} {m} {vs} {n} w h = ap (take n) (front_to w h) ∙ take_at vs (drop n l) n (omega (arith, w.place))
 
 pub loop-i-init : goal.loop-i-init
 loop-i-init c = (omega arith, none _ _, refl)
@@ -48,5 +48,5 @@ returns c =
     let e : l.i ≡ length w / 2 = omega arith in
     let all = take_all l.i (pairs w) (omega (arith, length_pairs w)) in
     let hex = l.invariant.2 ∙ hex_end w (2 * l.i) (omega (arith, c.requires.1)) in
-    let front = rw e at (front-is (rw all at l.invariant.1) (omega (arith, c.requires.0))) in
+    let front = rw e at (front_is (rw all at l.invariant.1) (omega (arith, c.requires.0))) in
     (rw (hex, front), omega (arith, kept l.invariant.1, c.requires.0))

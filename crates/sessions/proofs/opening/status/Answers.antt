@@ -51,8 +51,8 @@ returns-then-any_held c =
     let numbered : any (is_numbered c.args.request.session) (slots_of c.args.slots.now) ≡ ltb c.first_numbered.result slot_count = any-slot (is_numbered c.args.request.session) c.args.slots.now ∙ rw c.first_numbered.ensures in
     let free : any is_free (slots_of c.args.slots.now) ≡ ltb c.first_free.result slot_count = any-slot is_free c.args.slots.now ∙ rw c.first_free.ensures in
     let unnumbered : any (is_numbered c.args.request.session) (slots_of c.args.slots.now) ≡ false = numbered ∙ le-ltb _ _ c.if-first_numbered-lt-SLOTS.false in
-    let some-free : any is_free (slots_of c.args.slots.now) ≡ true = free ∙ lt-ltb _ _ c.if-first_free-ge-SLOTS.false in
-    simp (legal, unnumbered, some-free, sym c.any_held.ensures ∙ c.if-any_held.true)
+    let some_free : any is_free (slots_of c.args.slots.now) ≡ true = free ∙ lt-ltb _ _ c.if-first_free-ge-SLOTS.false in
+    simp (legal, unnumbered, some_free, sym c.any_held.ensures ∙ c.if-any_held.true)
 
 pub returns : goal.returns
 unfolding mode_send_status
@@ -61,5 +61,5 @@ returns c =
     let numbered : any (is_numbered c.args.request.session) (slots_of c.args.slots.now) ≡ ltb c.first_numbered.result slot_count = any-slot (is_numbered c.args.request.session) c.args.slots.now ∙ rw c.first_numbered.ensures in
     let free : any is_free (slots_of c.args.slots.now) ≡ ltb c.first_free.result slot_count = any-slot is_free c.args.slots.now ∙ rw c.first_free.ensures in
     let unnumbered : any (is_numbered c.args.request.session) (slots_of c.args.slots.now) ≡ false = numbered ∙ le-ltb _ _ c.if-first_numbered-lt-SLOTS.false in
-    let some-free : any is_free (slots_of c.args.slots.now) ≡ true = free ∙ lt-ltb _ _ c.if-first_free-ge-SLOTS.false in
-    simp (legal, unnumbered, some-free, sym c.any_held.ensures ∙ c.if-any_held.false)
+    let some_free : any is_free (slots_of c.args.slots.now) ≡ true = free ∙ lt-ltb _ _ c.if-first_free-ge-SLOTS.false in
+    simp (legal, unnumbered, some_free, sym c.any_held.ensures ∙ c.if-any_held.false)

@@ -17,8 +17,8 @@ returns-then-count-lt1 c = simp (lt-leb _ _ c.if-count-lt1.true)
 pub returns-then-count-gt-INDICES : goal.returns-then-count-gt-INDICES
 unfolding is_legal
 returns-then-count-gt-INDICES c =
-    let some-named : leb 1 c.args.request.count ≡ true = le-leb _ _ c.if-count-lt1.false in
-    simp (some-named, lt-leb _ _ c.if-count-gt-INDICES.true)
+    let some_named : leb 1 c.args.request.count ≡ true = le-leb _ _ c.if-count-lt1.false in
+    simp (some_named, lt-leb _ _ c.if-count-gt-INDICES.true)
 
 pub slice_bounds-indices-end : goal.slice_bounds-indices-end
 slice_bounds-indices-end c = let long : length c.args.request.indices ≡ max_indices = search rules in omega (arith, long, c.if-count-gt-INDICES.false)
@@ -31,34 +31,34 @@ slice_bounds-targets_legal-end c =
 pub returns-then-not-targets_legal : goal.returns-then-not-targets_legal
 unfolding is_legal
 returns-then-not-targets_legal c =
-    let some-named : leb 1 c.args.request.count ≡ true = le-leb _ _ c.if-count-lt1.false in
-    let few-named : leb c.args.request.count max_indices ≡ true = le-leb _ _ c.if-count-gt-INDICES.false in
+    let some_named : leb 1 c.args.request.count ≡ true = le-leb _ _ c.if-count-lt1.false in
+    let few_named : leb c.args.request.count max_indices ≡ true = le-leb _ _ c.if-count-gt-INDICES.false in
     let targets : c.targets_legal.result ≡ targets_legal c.args.table.now [] (named c.args.request) = c.targets_legal.ensures in
-    simp (some-named, few-named, sym (targets) ∙ c.if-not-targets_legal.true)
+    simp (some_named, few_named, sym (targets) ∙ c.if-not-targets_legal.true)
 
 pub returns-then-request-gt-MAX_PRIORITY : goal.returns-then-request-gt-MAX_PRIORITY
 unfolding is_legal
 returns-then-request-gt-MAX_PRIORITY c =
-    let some-named : leb 1 c.args.request.count ≡ true = le-leb _ _ c.if-count-lt1.false in
-    let few-named : leb c.args.request.count max_indices ≡ true = le-leb _ _ c.if-count-gt-INDICES.false in
+    let some_named : leb 1 c.args.request.count ≡ true = le-leb _ _ c.if-count-lt1.false in
+    let few_named : leb c.args.request.count max_indices ≡ true = le-leb _ _ c.if-count-gt-INDICES.false in
     let targets : c.targets_legal.result ≡ targets_legal c.args.table.now [] (named c.args.request) = c.targets_legal.ensures in
     let legal : targets_legal c.args.table.now [] (named c.args.request) ≡ true = sym (targets) ∙ c.if-not-targets_legal.false in
-    simp (some-named, few-named, legal, lt-leb _ _ c.if-request-gt-MAX_PRIORITY.true)
+    simp (some_named, few_named, legal, lt-leb _ _ c.if-request-gt-MAX_PRIORITY.true)
 
 pub returns-then-request-gt-MAX_LOCK : goal.returns-then-request-gt-MAX_LOCK
 unfolding is_legal
 returns-then-request-gt-MAX_LOCK c =
-    let some-named : leb 1 c.args.request.count ≡ true = le-leb _ _ c.if-count-lt1.false in
-    let few-named : leb c.args.request.count max_indices ≡ true = le-leb _ _ c.if-count-gt-INDICES.false in
+    let some_named : leb 1 c.args.request.count ≡ true = le-leb _ _ c.if-count-lt1.false in
+    let few_named : leb c.args.request.count max_indices ≡ true = le-leb _ _ c.if-count-gt-INDICES.false in
     let targets : c.targets_legal.result ≡ targets_legal c.args.table.now [] (named c.args.request) = c.targets_legal.ensures in
     let legal : targets_legal c.args.table.now [] (named c.args.request) ≡ true = sym (targets) ∙ c.if-not-targets_legal.false in
-    simp (some-named, few-named, legal, le-leb _ _ c.if-request-gt-MAX_PRIORITY.false, lt-leb _ _ c.if-request-gt-MAX_LOCK.true)
+    simp (some_named, few_named, legal, le-leb _ _ c.if-request-gt-MAX_PRIORITY.false, lt-leb _ _ c.if-request-gt-MAX_LOCK.true)
 
 pub returns : goal.returns
 unfolding is_legal
 returns c =
-    let some-named : leb 1 c.args.request.count ≡ true = le-leb _ _ c.if-count-lt1.false in
-    let few-named : leb c.args.request.count max_indices ≡ true = le-leb _ _ c.if-count-gt-INDICES.false in
+    let some_named : leb 1 c.args.request.count ≡ true = le-leb _ _ c.if-count-lt1.false in
+    let few_named : leb c.args.request.count max_indices ≡ true = le-leb _ _ c.if-count-gt-INDICES.false in
     let targets : c.targets_legal.result ≡ targets_legal c.args.table.now [] (named c.args.request) = c.targets_legal.ensures in
     let legal : targets_legal c.args.table.now [] (named c.args.request) ≡ true = sym (targets) ∙ c.if-not-targets_legal.false in
-    c.is_member.ensures ∙ simp (some-named, few-named, legal, le-leb _ _ c.if-request-gt-MAX_PRIORITY.false, le-leb _ _ c.if-request-gt-MAX_LOCK.false)
+    c.is_member.ensures ∙ simp (some_named, few_named, legal, le-leb _ _ c.if-request-gt-MAX_PRIORITY.false, le-leb _ _ c.if-request-gt-MAX_LOCK.false)

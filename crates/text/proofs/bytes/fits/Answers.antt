@@ -9,8 +9,8 @@ use Rattle.text.specs.BytesLaws.{word_length-some}
 use Rattle.text.proofs.bytes.fits.Goals as goal
 
 -- two tests that hold together
-leb-same : (a b x y : ℕ) → (a ≤ b → x ≤ y) → (x ≤ y → a ≤ b) → leb a b ≡ leb x y
-leb-same a b x y f g = go (leb a b) refl
+leb_same : (a b x y : ℕ) → (a ≤ b → x ≤ y) → (x ≤ y → a ≤ b) → leb a b ≡ leb x y
+leb_same a b x y f g = go (leb a b) refl
   where
     go : (t : Bool) → leb a b ≡ t → t ≡ leb x y
     go true e = sym (le-leb x y (f (leb-true a b e)))
@@ -30,10 +30,10 @@ pub returns-then-bytes-eq0 : goal.returns-then-bytes-eq0
 unfolding word_length
 returns-then-bytes-eq0 c =
     let a = c.args in
-    rw c.if-bytes-eq0.true (leb-same 1 (a.room - a.number - a.end) (a.number + 1 + a.end) a.room (λ h. omega arith) (λ h. omega arith))
+    rw c.if-bytes-eq0.true (leb_same 1 (a.room - a.number - a.end) (a.number + 1 + a.end) a.room (λ h. omega arith) (λ h. omega arith))
 
 pub returns : goal.returns
 returns c =
     let a = c.args in
     rw (word_length-some a.bytes (omega arith))
-    (leb-same a.bytes ((a.room - a.number - a.end) / 2) (a.number + 2 * a.bytes + a.end) a.room (λ h. omega arith) (λ h. omega arith))
+    (leb_same a.bytes ((a.room - a.number - a.end) / 2) (a.number + 2 * a.bytes + a.end) a.room (λ h. omega arith) (λ h. omega arith))
