@@ -5,362 +5,264 @@
 
 mod old_bytes;
 
+ghost use Rattle.std.specs.Prelude.{◌≤◌, length};
+
+use frame::Cause;
 use line::{DecodedPlace, Fault, FaultAt, Mode, PacketOutcome, Reading, WirePlace};
-use rules::FedByValue;
+use rules::{AnsweredByValue, Told};
 use std::io::{Print, Stdout};
-use text::{COLON, GAP, LINE_END, NOTHING, PACKET};
+use text::{COLON, GAP, LINE_END, NOTHING, PACKET, Page};
 
-// Where a text ends, and the record after the bytes read so far.
-#[derive(Clone, Copy)]
-struct Run {
-    at: usize,
-    reading: Reading,
-}
-
-// A text longer than this is cut off.
+// A piece that has no room behind those before it is left out.
 const PAGE: usize = 2048;
-
-const BAR: [u8; 2] = *b" |";
-
-const RECORD: [u8; 6] = *b"record";
-
-const HUB: [u8; 3] = *b"hub";
-
-const PLAIN: [u8; 6] = *b" plain";
-
-const ESCAPED: [u8; 8] = *b" escaped";
-
-const SKIPPING: [u8; 10] = *b" skipping ";
-
-const HOLDS: [u8; 6] = *b" holds";
-
-const READS: [u8; 7] = *b" reads ";
-
-const REFUSED: [u8; 9] = *b" refused ";
-
-const TOO_MANY: [u8; 9] = *b" too many";
 
 // An escaped END.
 const PAIR: [u8; 2] = [line::ESC, line::ESC_END];
 
-// Where the output is not taken, the cases go on, here and below.
-fn print(stdout: Stdout, page: &[u8], end: usize) {
-    if end <= page.len() {
-        let _ = stdout.write_all(&page[0..end]);
-    }
+// Stays: twice, here and in `framing`, no plainer: one for both would be a public function that no one else calls.
+// Where the output is not taken, the cases go on.
+fn print(stdout: Stdout, page: &Page) {
+    let _ = stdout.write_all(page.written());
 }
 
-fn number_of(fault: Fault) -> u64 {
-    match fault {
-        Fault::WrongEscape => 1,
-        Fault::TooLong => 2,
-    }
+// How many bytes there are, and the bytes, between two words.
+fn counted(page: &mut Page, before: &[u8], bytes: &[u8], last: &[u8]) {
+    page.bytes_line(before, bytes.len() as u64, GAP, bytes, last);
 }
 
 // The first n bytes of the record's array.
-fn put_held(out: &mut [u8], at: usize, word: &[u8], reading: Reading, n: usize) -> usize {
-    let bytes = reading.bytes;
-    if line::LIMIT < n {
-        return text::append(out, at, &TOO_MANY);
+fn put_held(page: &mut Page, word: &[u8], reading: Reading, n: usize) {
+    match reading.bytes.get(..n) {
+        Some(held) => counted(page, word, held, NOTHING),
+        None => page.append(b" too many"),
     }
-    text::bytes_line(out, at, word, n as u64, &GAP, &bytes[0..n], &NOTHING)
 }
 
-fn put_outcome(out: &mut [u8], at: usize, outcome: PacketOutcome, reading: Reading) -> usize {
+fn put_outcome(page: &mut Page, outcome: PacketOutcome, reading: Reading) {
     match outcome {
-        PacketOutcome::Nothing => at,
-        PacketOutcome::Packet(n) => put_held(out, at, &PACKET, reading, n),
-        PacketOutcome::Refused(fault) => put_fault(out, at, &REFUSED, fault, &NOTHING),
+        PacketOutcome::Nothing => {}
+        PacketOutcome::Packet(n) => put_held(page, PACKET, reading, n),
+        PacketOutcome::Refused(fault) => put_fault(page, b" refused ", fault),
     }
 }
 
-// A fault between two words: its number, and where it is.
-fn put_fault(out: &mut [u8], at: usize, word: &[u8], fault: FaultAt, last: &[u8]) -> usize {
-    let kind = fault.fault;
-    let places = fault.at;
-    let number = text::append_numbered(out, at, word, number_of(kind), &NOTHING);
-    let end = text::append_places(out, number, places);
-    text::append(out, end, last)
+// A fault behind a word: its number, and where it is.
+fn put_fault(page: &mut Page, word: &[u8], fault: FaultAt) {
+    let cause = Cause::from(fault.fault);
+    page.append_numbered(word, u64::from(frame::number(cause)), NOTHING);
+    page.append_places(fault.at);
 }
 
-fn put_mode(out: &mut [u8], at: usize, mode: Mode) -> usize {
+fn put_mode(page: &mut Page, mode: Mode) {
     match mode {
-        Mode::Plain => text::append(out, at, &PLAIN),
-        Mode::Escaped => text::append(out, at, &ESCAPED),
-        Mode::Skipping(fault) => put_fault(out, at, &SKIPPING, fault, &HOLDS),
+        Mode::Plain => page.append(b" plain"),
+        Mode::Escaped => page.append(b" escaped"),
+        Mode::Skipping(fault) => {
+            put_fault(page, b" skipping ", fault);
+            page.append(b" holds");
+        }
     }
 }
 
 // The record as it was left: its mode, and the bytes that it claims.
-fn put_reading(out: &mut [u8], at: usize, reading: Reading) -> usize {
-    let mode = reading.mode;
-    let count = reading.count;
-    let bar = text::append(out, at, &BAR);
-    let claims = put_mode(out, bar, mode);
-    let held = put_held(out, claims, &GAP, reading, count);
-    text::append(out, held, &LINE_END)
+fn put_reading(page: &mut Page, reading: Reading) {
+    page.append(b" |");
+    put_mode(page, reading.mode);
+    put_held(page, GAP, reading, reading.count);
+    page.append(LINE_END);
 }
 
 // Calls the reader until all bytes are used.
-fn read_all(out: &mut [u8], start: Run, wire: &[u8]) -> Run {
-    let mut at = start.at;
-    let mut reading = start.reading;
-    let mut place = 0;
-    while place < wire.len() {
-        let answer = line::read(reading, &wire[place..]);
-        let used = answer.used;
-        let outcome = answer.outcome;
+fn read_all(page: &mut Page, start: Reading, wire: &[u8]) -> Reading {
+    let mut reading = start;
+    let mut rest = wire;
+    while !rest.is_empty() {
+        let answer = line::read(reading, rest);
         reading = answer.reading;
-        at = put_outcome(out, at, outcome, reading);
-        place += used;
+        put_outcome(page, answer.outcome, reading);
+        rest = &rest[answer.used..];
     }
-    Run { at, reading }
+    reading
 }
 
 // What the wire gives, read in two parts.
-fn put_cut(out: &mut [u8], wire: &[u8], place: usize) -> usize {
-    if wire.len() < place {
-        return 0;
-    }
-    let reading = line::emptied();
-    let start = Run { at: 0, reading };
-    let half = read_all(out, start, &wire[0..place]);
-    let whole = read_all(out, half, &wire[place..]);
-    let at = whole.at;
-    let after = whole.reading;
-    put_reading(out, at, after)
+fn put_cut(page: &mut Page, wire: &[u8], place: usize)
+    requires { place ≤ length wire.now }
+{
+    let half = read_all(page, line::emptied(), &wire[..place]);
+    let whole = read_all(page, half, &wire[place..]);
+    put_reading(page, whole);
 }
 
-fn cut_agrees(wire: &[u8], place: usize, whole: &[u8]) -> bool {
-    let mut page = [0u8; PAGE];
-    let end = put_cut(&mut page, wire, place);
-    if PAGE < end {
-        return false;
-    }
-    memory::is_same(&page[0..end], whole)
+fn cut_agrees(wire: &[u8], place: usize, whole: &[u8]) -> bool
+    requires { place ≤ length wire.now }
+{
+    let mut out = [0; PAGE];
+    let mut page = Page {
+        out: &mut out,
+        at: 0,
+    };
+    put_cut(&mut page, wire, place);
+    page.written() == whole
 }
 
 fn cuts_agree(wire: &[u8], whole: &[u8]) -> bool {
-    for place in 0..wire.len() {
-        if !cut_agrees(wire, place, whole) {
-            return false;
-        }
-    }
-    true
-}
-
-// The wire is an END, n times 55, then `tail`.
-fn show_case(stdout: Stdout, name: &[u8], n: usize, tail: &[u8]) {
-    show_escaped(stdout, name, 0, n, tail);
-}
-
-// The wire is an END, so many escaped ENDs, n times 55, then `tail`.
-fn show_escaped(stdout: Stdout, name: &[u8], pairs: usize, n: usize, tail: &[u8]) {
-    let mut wire = [0x55u8; 600];
-    wire[0] = line::END;
-    if 256 < pairs {
-        return;
-    }
-    if 256 < n {
-        return;
-    }
-    if 40 < tail.len() {
-        return;
-    }
-    put_pairs(&mut wire, pairs);
-    let end = 1 + 2 * pairs + n;
-    memory::copy(&mut wire, end, tail);
-    let whole = end + tail.len();
-    if 600 < whole {
-        return;
-    }
-    let _ = stdout.write_all(name);
-    show_cuts(stdout, &wire[0..whole]);
-}
-
-// Escaped ENDs behind the first byte, no more than 256.
-fn put_pairs(wire: &mut [u8], pairs: usize) {
-    let mut k = 0;
-    while k < pairs {
-        if 256 < k {
-            return;
-        }
-        memory::copy(wire, 1 + 2 * k, &PAIR);
-        k += 1;
-    }
+    (0..wire.len()).all(|place| cut_agrees(wire, place, whole))
 }
 
 fn show_cuts(stdout: Stdout, wire: &[u8]) {
-    let mut page = [0u8; PAGE];
-    let end = put_cut(&mut page, wire, wire.len());
-    if PAGE < end {
-        return;
-    }
-    print(stdout, &page, end);
-    if !cuts_agree(wire, &page[0..end]) {
+    let mut out = [0; PAGE];
+    let mut page = Page {
+        out: &mut out,
+        at: 0,
+    };
+    put_cut(&mut page, wire, wire.len());
+    print(stdout, &page);
+    if !cuts_agree(wire, page.written()) {
         let _ = stdout.write_all(b"differs where it is cut\n");
     }
 }
 
-fn show_short(stdout: Stdout) {
-    show_case(stdout, b"P2", 0, b"\xC0\xC0");
-    show_case(stdout, b"P7", 0, b"\xDB\xC0");
-    show_case(stdout, b"ESC ESC", 0, b"\xDB\xDB\xC0");
+// The wire is an END, so many escaped ENDs, n times 55, then `tail`.
+fn show_case(stdout: Stdout, name: &[u8], pairs: usize, n: usize, tail: &[u8]) {
+    let mut out = [0; PAGE];
+    let mut wire = Page {
+        out: &mut out,
+        at: 0,
+    };
+    wire.append(&[line::END]);
+    for _ in 0..pairs {
+        wire.append(&PAIR);
+    }
+    for _ in 0..n {
+        wire.append(&[0x55]);
+    }
+    wire.append(tail);
+    let _ = stdout.write_all(name);
+    show_cuts(stdout, wire.written());
 }
 
-fn show_escapes(stdout: Stdout) {
-    show_case(
-        stdout,
-        b"DC and DD outside an escape",
-        0,
-        b"\xDC\xDD\xDC\xC0",
-    );
-    show_case(
-        stdout,
+// Name, n and tail of wires without pairs.
+const WIRES: [(&[u8], usize, &[u8]); 17] = [
+    (b"P2", 0, b"\xC0\xC0"),
+    (b"P7", 0, b"\xDB\xC0"),
+    (b"ESC ESC", 0, b"\xDB\xDB\xC0"),
+    (b"DC and DD outside an escape", 0, b"\xDC\xDD\xDC\xC0"),
+    (
         b"escapes and an empty piece",
         0,
         b"\x01\xDB\xDC\xDB\xDD\x02\xC0\xC0\x03\xC0",
-    );
-    show_case(stdout, b"open in an escape", 0, b"\x01\xDB");
-}
-
-fn show_wrong_escape(stdout: Stdout) {
-    show_case(stdout, b"open after a wrong escape", 0, b"\x01\xDB\x02");
-    show_case(
-        stdout,
+    ),
+    (b"open in an escape", 0, b"\x01\xDB"),
+    (b"open after a wrong escape", 0, b"\x01\xDB\x02"),
+    (
         b"wrong escape, then a frame's bytes",
         0,
         b"\x11\xDB\x22\x00\x03\x00\x01\x02\xC0\x33\xC0",
-    );
-}
-
-fn show_long(stdout: Stdout) {
-    show_case(stdout, b"255 decoded bytes", 255, b"\xC0");
-    show_case(stdout, b"256 decoded bytes", 256, b"\xC0");
-    show_case(
-        stdout,
-        b"the 255th decoded byte escaped",
-        254,
-        b"\xDB\xDC\xC0",
-    );
-}
-
-fn show_full(stdout: Stdout) {
-    show_case(stdout, b"ESC at 255, open", 255, b"\xDB");
-    show_case(stdout, b"ESC at 255, then END", 255, b"\xDB\xC0");
-    show_case(stdout, b"ESC at 255, then DC", 255, b"\xDB\xDC\xC0");
-}
-
-fn show_too_long(stdout: Stdout) {
-    show_case(
-        stdout,
-        b"ESC at 255, then another byte",
-        255,
-        b"\xDB\xDE\xC0",
-    );
-    show_case(
-        stdout,
+    ),
+    (b"255 decoded bytes", 255, b"\xC0"),
+    (b"256 decoded bytes", 256, b"\xC0"),
+    (b"the 255th decoded byte escaped", 254, b"\xDB\xDC\xC0"),
+    (b"ESC at 255, open", 255, b"\xDB"),
+    (b"ESC at 255, then END", 255, b"\xDB\xC0"),
+    (b"ESC at 255, then DC", 255, b"\xDB\xDC\xC0"),
+    (b"ESC at 255, then another byte", 255, b"\xDB\xDE\xC0"),
+    (
         b"256 bytes, then a frame's bytes",
         256,
         b"\x00\x03\x00\x01\x02\xC0\x33\xC0",
-    );
-    show_case(stdout, b"open after 256 bytes", 256, b"\x01");
+    ),
+    (b"open after 256 bytes", 256, b"\x01"),
+];
+
+fn show_wires(stdout: Stdout) {
+    for (name, n, tail) in WIRES {
+        show_case(stdout, name, 0, n, tail);
+    }
 }
 
-fn show_places(stdout: Stdout) {
-    show_escaped(
-        stdout,
-        b"escapes before a wrong escape",
-        2,
-        1,
-        b"\xDB\x00\x05\xC0",
-    );
-    show_escaped(
-        stdout,
+// Name, pairs, n and tail.
+const ESCAPED_WIRES: [(&[u8], usize, usize, &[u8]); 11] = [
+    (b"escapes before a wrong escape", 2, 1, b"\xDB\x00\x05\xC0"),
+    (
         b"escapes behind a wrong escape",
         0,
         1,
         b"\xDB\x07\xDB\xDC\xDB\xDB\xC0",
-    );
-    show_escaped(
-        stdout,
-        b"ESC behind 255 escaped, then END",
-        255,
-        0,
-        b"\xDB\xC0",
-    );
-    show_escaped(
-        stdout,
+    ),
+    (b"ESC behind 255 escaped, then END", 255, 0, b"\xDB\xC0"),
+    (
         b"ESC behind 255 escaped, then another byte",
         255,
         0,
         b"\xDB\x01\xC0",
-    );
-}
-
-fn show_long_places(stdout: Stdout) {
-    show_escaped(stdout, b"255 decoded bytes, 100 escaped", 100, 155, b"\xC0");
-    show_escaped(stdout, b"255 decoded bytes, all escaped", 255, 0, b"\xC0");
-    show_escaped(
-        stdout,
-        b"256 decoded bytes, 100 escaped",
-        100,
-        155,
-        b"\x01\xC0",
-    );
-    show_escaped(stdout, b"256 decoded bytes, all escaped", 256, 0, b"\xC0");
-    show_escaped(
-        stdout,
+    ),
+    (b"255 decoded bytes, 100 escaped", 100, 155, b"\xC0"),
+    (b"255 decoded bytes, all escaped", 255, 0, b"\xC0"),
+    (b"256 decoded bytes, 100 escaped", 100, 155, b"\x01\xC0"),
+    (b"256 decoded bytes, all escaped", 256, 0, b"\xC0"),
+    (
         b"256 decoded bytes, all but the last escaped",
         255,
         0,
         b"\x01\xC0",
-    );
-    show_escaped(
-        stdout,
+    ),
+    (
         b"256 decoded bytes, escapes behind",
         0,
         256,
         b"\xDB\xDC\xDB\xDD\xC0",
-    );
-    show_escaped(stdout, b"open after 256 escaped bytes", 256, 0, b"\xDB");
+    ),
+    (b"open after 256 escaped bytes", 256, 0, b"\xDB"),
+];
+
+fn show_escaped_wires(stdout: Stdout) {
+    for (name, pairs, n, tail) in ESCAPED_WIRES {
+        show_case(stdout, name, pairs, n, tail);
+    }
+}
+
+// A record of any mode that claims so many bytes, all of them 55.
+fn claiming(mode: Mode, count: usize) -> Reading {
+    Reading {
+        bytes: [0x55; line::LIMIT],
+        count,
+        mode,
+    }
 }
 
 // A lent record of any mode and count, in one call on some bytes.
 fn show_record(stdout: Stdout, mode: Mode, count: usize, wire: &[u8]) {
-    let bytes = [0x55u8; line::LIMIT];
-    let lent = Reading { bytes, count, mode };
-    let mut page = [0u8; PAGE];
-    let title = put_title(&mut page, &RECORD, mode, count);
-    let reads = text::bytes_line(
-        &mut page,
-        title,
-        &READS,
-        wire.len() as u64,
-        &GAP,
-        wire,
-        &COLON,
-    );
-    let answer = line::read(lent, wire);
-    let outcome = answer.outcome;
-    let after = answer.reading;
-    let told = put_outcome(&mut page, reads, outcome, after);
-    let end = put_reading(&mut page, told, after);
-    print(stdout, &page, end);
+    let mut out = [0; PAGE];
+    let mut page = Page {
+        out: &mut out,
+        at: 0,
+    };
+    put_title(&mut page, b"record", mode, count);
+    counted(&mut page, b" reads ", wire, COLON);
+    let answer = line::read(claiming(mode, count), wire);
+    put_outcome(&mut page, answer.outcome, answer.reading);
+    put_reading(&mut page, answer.reading);
+    print(stdout, &page);
 }
 
-fn put_title(out: &mut [u8], word: &[u8], mode: Mode, count: usize) -> usize {
-    let at = text::append(out, 0, word);
-    let claims = put_mode(out, at, mode);
-    text::append_numbered(out, claims, &GAP, count as u64, &NOTHING)
+fn put_title(page: &mut Page, word: &[u8], mode: Mode, count: usize) {
+    page.append(word);
+    put_mode(page, mode);
+    page.append_numbered(GAP, count as u64, NOTHING);
 }
 
 // The same count in every mode.
 fn show_modes(stdout: Stdout, count: usize, wire: &[u8]) {
-    show_record(stdout, Mode::Plain, count, wire);
-    show_record(stdout, Mode::Escaped, count, wire);
-    show_record(stdout, skipping(Fault::WrongEscape, 7, 3), count, wire);
-    show_record(stdout, skipping(Fault::TooLong, 300, 255), count, wire);
+    let modes = [
+        Mode::Plain,
+        Mode::Escaped,
+        skipping(Fault::WrongEscape, 7, 3),
+        skipping(Fault::TooLong, 300, 255),
+    ];
+    for mode in modes {
+        show_record(stdout, mode, count, wire);
+    }
 }
 
 // A record that skips for a fault at these places.
@@ -370,82 +272,80 @@ fn skipping(fault: Fault, wire: u16, decoded: u16) -> Mode {
 }
 
 fn show_counts(stdout: Stdout, wire: &[u8]) {
-    show_modes(stdout, 0, wire);
-    show_modes(stdout, 3, wire);
-    show_modes(stdout, 255, wire);
-    show_modes(stdout, 256, wire);
-    show_modes(stdout, 18446744073709551615, wire);
+    for count in [0, 3, 255, 256, usize::MAX] {
+        show_modes(stdout, count, wire);
+    }
 }
 
-// Records that skip at the bounds of the possible places, and one beyond each, read up to an END.
-fn show_escape_bounds(stdout: Stdout, wire: u16, decoded: u16) {
-    show_record(
-        stdout,
-        skipping(Fault::WrongEscape, wire, decoded),
-        0,
-        b"\xC0",
-    );
-}
+// Wire and decoded places at which a record may skip, at their bounds and one beyond each.
+const ESCAPE_BOUNDS: [(u16, u16); 14] = [
+    (0, 0),
+    (1, 0),
+    (2, 0),
+    (3, 3),
+    (4, 3),
+    (7, 3),
+    (8, 3),
+    (255, 255),
+    (256, 255),
+    (511, 255),
+    (512, 255),
+    (257, 256),
+    (0, 65535),
+    (65535, 65535),
+];
 
-fn show_long_bounds(stdout: Stdout, wire: u16, decoded: u16) {
-    show_record(stdout, skipping(Fault::TooLong, wire, decoded), 0, b"\xC0");
-}
+const LONG_BOUNDS: [(u16, u16); 7] = [
+    (254, 255),
+    (255, 255),
+    (510, 255),
+    (511, 255),
+    (254, 254),
+    (256, 256),
+    (65535, 255),
+];
 
-fn show_first_bounds(stdout: Stdout) {
-    show_escape_bounds(stdout, 0, 0);
-    show_escape_bounds(stdout, 1, 0);
-    show_escape_bounds(stdout, 2, 0);
-    show_escape_bounds(stdout, 3, 3);
-    show_escape_bounds(stdout, 4, 3);
-    show_escape_bounds(stdout, 7, 3);
-    show_escape_bounds(stdout, 8, 3);
-}
-
-fn show_last_bounds(stdout: Stdout) {
-    show_escape_bounds(stdout, 255, 255);
-    show_escape_bounds(stdout, 256, 255);
-    show_escape_bounds(stdout, 511, 255);
-    show_escape_bounds(stdout, 512, 255);
-    show_escape_bounds(stdout, 257, 256);
-    show_escape_bounds(stdout, 0, 65535);
-    show_escape_bounds(stdout, 65535, 65535);
-}
-
-fn show_256th_bounds(stdout: Stdout) {
-    show_long_bounds(stdout, 254, 255);
-    show_long_bounds(stdout, 255, 255);
-    show_long_bounds(stdout, 510, 255);
-    show_long_bounds(stdout, 511, 255);
-    show_long_bounds(stdout, 254, 254);
-    show_long_bounds(stdout, 256, 256);
-    show_long_bounds(stdout, 65535, 255);
+// Records that skip there, read up to an END.
+fn show_bounds(stdout: Stdout, fault: Fault, bounds: &[(u16, u16)]) {
+    for (wire, decoded) in bounds {
+        show_record(stdout, skipping(fault, *wire, *decoded), 0, b"\xC0");
+    }
 }
 
 // Impossible places with bytes claimed.
-fn show_claimed_bounds(stdout: Stdout, count: usize) {
-    show_record(stdout, skipping(Fault::WrongEscape, 8, 3), count, b"\xC0");
-    show_record(stdout, skipping(Fault::TooLong, 511, 255), count, b"\xC0");
+fn show_claimed_bounds(stdout: Stdout) {
+    for count in [1, 255, 256] {
+        show_record(stdout, skipping(Fault::WrongEscape, 8, 3), count, b"\xC0");
+        show_record(stdout, skipping(Fault::TooLong, 511, 255), count, b"\xC0");
+    }
 }
 
 // A lent record of any mode and count, fed to a hub before any start: the bytes of P3 behind its first END.
 fn show_fed(stdout: Stdout, mode: Mode, count: usize) {
-    let bytes = [0x55u8; line::LIMIT];
-    let reading = Reading { bytes, count, mode };
     let mut table = [0u8; nodes::TABLE];
     let mut room = [transcript::FILLER; frame::ROOM];
     let wire = b"\x00\x03\x00\x01\x02\xC0";
-    let fed = hub::feed_by_value(hub::first(), &mut table, reading, 0, wire, &mut room);
+    let fed = hub::feed_by_value(
+        hub::first(),
+        &mut table,
+        claiming(mode, count),
+        0,
+        wire,
+        &mut room,
+    );
     show_told(stdout, mode, count, fed, &room);
 }
 
-fn show_told(stdout: Stdout, mode: Mode, count: usize, fed: FedByValue, room: &[u8]) {
-    let answer = fed.answer;
-    let after = fed.reading;
-    let mut page = [0u8; PAGE];
-    let title = put_title(&mut page, &HUB, mode, count);
-    let record = put_reading(&mut page, title, after);
-    let end = transcript::feed_line(&mut page, record, answer, room);
-    print(stdout, &page, end);
+fn show_told(stdout: Stdout, mode: Mode, count: usize, fed: AnsweredByValue<Told>, room: &[u8]) {
+    let mut out = [0; PAGE];
+    let mut page = Page {
+        out: &mut out,
+        at: 0,
+    };
+    put_title(&mut page, b"hub", mode, count);
+    put_reading(&mut page, fed.reading);
+    transcript::feed_line(&mut page, fed.answer, room);
+    print(stdout, &page);
 }
 
 // Records that the hub takes as emptied, and as skipping with none.
@@ -460,23 +360,14 @@ fn show_hub(stdout: Stdout) {
 
 fn main(rt: HostRuntime) {
     let stdout = rt.stdout();
-    show_short(stdout);
-    show_escapes(stdout);
-    show_wrong_escape(stdout);
-    show_long(stdout);
-    show_full(stdout);
-    show_too_long(stdout);
-    show_places(stdout);
-    show_long_places(stdout);
+    show_wires(stdout);
+    show_escaped_wires(stdout);
     show_counts(stdout, b"");
     show_counts(stdout, b"\xC0");
     show_counts(stdout, b"\xDC\xC0");
-    show_first_bounds(stdout);
-    show_last_bounds(stdout);
-    show_256th_bounds(stdout);
-    show_claimed_bounds(stdout, 1);
-    show_claimed_bounds(stdout, 255);
-    show_claimed_bounds(stdout, 256);
+    show_bounds(stdout, Fault::WrongEscape, &ESCAPE_BOUNDS);
+    show_bounds(stdout, Fault::TooLong, &LONG_BOUNDS);
+    show_claimed_bounds(stdout);
     show_hub(stdout);
-    crate::old_bytes::show(stdout);
+    old_bytes::show(stdout);
 }

@@ -4,28 +4,28 @@
 
 pub mod entries;
 
-use directory::{Entry, Found};
+use directory::Entry;
 use std::io::{Print, Stdout};
+use text::Page;
 
 // Writes an entry's line, and answers whether it was taken.
 fn write_entry(stdout: Stdout, entry: Entry) -> bool {
-    let number = entry.number;
-    let least = entry.least;
-    let greatest = entry.greatest;
-    let mut out = [0u8; lister::LINE];
-    let end = crate::entries::entry_line(&mut out, 0, number, least, greatest);
-    stdout.write_all(&out[0..end]).is_ok()
+    let mut out = [0; lister::LINE];
+    let mut page = Page {
+        out: &mut out,
+        at: 0,
+    };
+    crate::entries::entry_line(&mut page, entry);
+    stdout.write_all(page.written()).is_ok()
 }
 
 fn main(rt: HostRuntime) {
-    let mut place = 0;
-    while place < directory::COUNT {
-        let Found::Listed(entry) = directory::entry_at(place) else {
+    for place in 0..directory::COUNT {
+        let Some(entry) = directory::entry_at(place) else {
             return;
         };
         if !write_entry(rt.stdout(), entry) {
             return;
         }
-        place += 1;
     }
 }

@@ -1,11 +1,10 @@
 -- Demands 1 and 2, and that no motor is ever held by two, proved (specs/Demands.antt has the statements; that of demand 2 stands here, since it is
 -- said of lists of feeds as crate feeds has them).
-use Rattle.std.specs.Prelude.{ℕ, ◌≤◌, ◌<◌, ◌≡◌, refl, List, [], ◌++◌, map, Bool, true, false, cond, not, length, take, drop, get_or, set, replicate, ltb}
+use Rattle.std.specs.Prelude.{ℕ, ◌≤◌, ◌<◌, ◌≡◌, refl, List, [], ◌++◌, Result as Either, map, Bool, true, false, cond, not, length, take, drop, get_or, set, replicate, ltb}
 use Rattle.std.proofs.Common.{sym, ap, ap₂, ◌∙◌, arith, take_at, lt-ltb, ltb-true}
 use Rattle.std.proofs.Math.Option.{Option, none, some, none-ne-some, some-injective}
 use Rattle.std.proofs.lemmas.List.{length-map, set-get_or}
-use Rattle.frame.specs.declared.Written.{Written}
-use Rattle.frame.specs.declared.WrittenAt.{WrittenAt}
+use Rattle.frame.specs.declared.WriteRefusal.{WriteRefusal}
 use Rattle.frame.specs.Writer as writer
 use Rattle.frame.specs.Writer.{Writing, up_to, no_fit, write, write_at, Writes}
 use Rattle.frame.specs.WireLaws.{Unwritten, write-refusal, write_untouched, place_untouched}
@@ -184,7 +183,7 @@ unfolding serve_if
 made_used_up {m} {g = g} x u n k e = rw (only_error_reply m.hub m.table g.line n) at (made_served x u (some (packet.refused n)) k e)
 
 -- the writer's refusals, by the laws of its definition
-writer_exactly : (room : List ℕ) (c : ℕ) (d : List ℕ) (r : Written) (left : List ℕ) → Writes (write room c d) (writer.told r) left → writing_refusal (writer.told r) ≡ write_refusal (length room) c d
+writer_exactly : (room : List ℕ) (c : ℕ) (d : List ℕ) (r : Either ℕ WriteRefusal) (left : List ℕ) → Writes (write room c d) (writer.told r) left → writing_refusal (writer.told r) ≡ write_refusal (length room) c d
 writer_exactly room c d r left x = ap writing_refusal (x.answer ∙ write-refusal room c d) ∙ go (ltb max_data (length d)) (ltb (length room) (length (wire c d)))
   where
     go : (a b : Bool) → writing_refusal (cond a (writer.refused 10) (cond b (writer.refused 9) (up_to (length (wire c d))))) ≡ refuse_if a writer.long_data (refuse_if b writer.short_room none)
@@ -192,7 +191,7 @@ writer_exactly room c d r left x = ap writing_refusal (x.answer ∙ write-refusa
     go false true = refl
     go false false = refl
 
-writer_untouched : (room : List ℕ) (c : ℕ) (d : List ℕ) (r : Written) (left : List ℕ) → Writes (write room c d) (writer.told r) left → (n : ℕ) → writing_refusal (writer.told r) ≡ some n → left ≡ room
+writer_untouched : (room : List ℕ) (c : ℕ) (d : List ℕ) (r : Either ℕ WriteRefusal) (left : List ℕ) → Writes (write room c d) (writer.told r) left → (n : ℕ) → writing_refusal (writer.told r) ≡ some n → left ≡ room
 writer_untouched room c d r left x n = go (writer.told r) refl
   where
     go : (w : Writing) → writer.told r ≡ w → writing_refusal w ≡ some n → left ≡ room
@@ -200,7 +199,7 @@ writer_untouched room c d r left x n = go (writer.told r) refl
     go (writer.refused k) q e = x.room ∙ write_untouched room c d k (sym x.answer ∙ q)
     go no_fit q e = absurd (none-ne-some n e)
 
-writer_place : (room : List ℕ) (i c : ℕ) (d : List ℕ) (r : WrittenAt) (left : List ℕ) → Writes (write_at room i c d) (writer.told_at r) left → Unwritten (writer.told_at r) → left ≡ room
+writer_place : (room : List ℕ) (i c : ℕ) (d : List ℕ) (r : Either ℕ WriteRefusal) (left : List ℕ) → Writes (write_at room i c d) (writer.told_at r) left → Unwritten (writer.told_at r) → left ≡ room
 writer_place room i c d r left x u = x.room ∙ place_untouched room i c d (rw x.answer at u)
 
 -- refusal 9, by what would be written

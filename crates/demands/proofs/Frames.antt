@@ -1,9 +1,9 @@
 -- Reading is exact: stated of lists of feeds as crate feeds has them, and proved; and of what the writer wrote (specs/Frames.antt).
-use Rattle.std.specs.Prelude.{ℕ, ◌≡◌, List, [], ◌++◌, map, drop, get_or}
+use Rattle.std.specs.Prelude.{ℕ, ◌≡◌, List, [], ◌++◌, Result, map, drop, get_or}
 use Rattle.std.proofs.Common.{sym, ap, ◌∙◌, take_at, drop_at}
 use Rattle.frame.specs.Line.{NoEnd, closed, last, decode, piece_outcomes}
 use Rattle.frame.specs.Frame.{Refusal, frame, refused, command_of, data_of, judge, wire}
-use Rattle.frame.specs.declared.Written.{Written}
+use Rattle.frame.specs.declared.WriteRefusal.{WriteRefusal}
 use Rattle.frame.specs.Writer as writer
 use Rattle.frame.specs.Writer.{up_to, write, Writes}
 use Rattle.frame.specs.WireLaws.{write_done}
@@ -52,7 +52,7 @@ pub read_frames : (w : List ℕ) (x : Frames w) → outcomes step emptied w ≡ 
 read_frames w x = ap (outcomes step emptied) x.bytes ∙ outcomes_frames x.frames
 
 -- what the writer leaves, by the laws of its definition
-pub writer_wrote : (room : List ℕ) (c : ℕ) (d : List ℕ) (r : Written) (left : List ℕ) → Writes (write room c d) (writer.told r) left → (n : ℕ) → writer.told r ≡ up_to n → Wrote room c d n left
+pub writer_wrote : (room : List ℕ) (c : ℕ) (d : List ℕ) (r : Result ℕ WriteRefusal) (left : List ℕ) → Writes (write room c d) (writer.told r) left → (n : ℕ) → writer.told r ≡ up_to n → Wrote room c d n left
 writer_wrote room c d r left x n e =
     let (most, k, w) = write_done room c d n (sym x.answer ∙ e) in
     let l : left ≡ wire c d ++ drop n room = x.room ∙ w in

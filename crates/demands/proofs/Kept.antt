@@ -1,5 +1,5 @@
 -- Each promise can be kept, whatever is lent: so every list of calls, and of feeds, can be made.
-use Rattle.std.specs.Prelude.{ℕ, zero, suc, ◌+◌, ◌-◌, ◌≤◌, ◌≡◌, refl, Bool, true, false, not, List, ◌∷◌, ◌++◌, length, drop, replicate, ltb, eqb}
+use Rattle.std.specs.Prelude.{ℕ, zero, suc, ◌+◌, ◌-◌, ◌≤◌, ◌≡◌, refl, Bool, true, false, not, List, ◌∷◌, ◌++◌, length, drop, replicate, ltb, eqb, Ok, Err}
 use Rattle.std.proofs.Common.{sym, ap, ◌∙◌, arith, length-append}
 use Rattle.std.proofs.Math.Option.{Option, none, some, none-ne-some}
 use Rattle.std.proofs.lemmas.List.{length-replicate}
@@ -26,13 +26,7 @@ use Rattle.rules.specs.declared.Hub.{Hub}
 use Rattle.rules.specs.Hub.{line_count, password_size, wrong_table, wrong_line, short_room, refuse_if, fresh_hub, closed_line, with_slots, notice, written, feed_refusal, hub}
 use Rattle.rules.specs.declared.CallRefusal.{CallRefusal}
 use Rattle.rules.specs.declared.CallRefusal.TheVariants as call_cause
-use Rattle.rules.specs.declared.CallAnswer.{CallAnswer}
-use Rattle.rules.specs.declared.CallAnswer.TheVariants as call_answer
-use Rattle.rules.specs.declared.FinishAnswer.{FinishAnswer}
-use Rattle.rules.specs.declared.FinishAnswer.TheVariants as finish_answer
-use Rattle.rules.specs.declared.FeedAnswer.{FeedAnswer}
-use Rattle.rules.specs.declared.FeedAnswer.TheVariants as feed
-use Rattle.rules.specs.Answers.{number, Bounded}
+use Rattle.rules.specs.Answers.{CallAnswer, FinishAnswer, FeedAnswer, number, Bounded}
 use Rattle.rules.specs.Promises.{Starts, Enrols, Closes, Finishes, Feeds}
 
 -- ---- host calls
@@ -41,26 +35,26 @@ pub start-any : (h : Hub) (t p : List ℕ) → (a : CallAnswer) × (h' : Hub) ×
 start-any h t p = go (not (eqb (length t) table_size)) refl (not (eqb (length p) password_size)) refl
   where
     go : (x : Bool) → not (eqb (length t) table_size) ≡ x → (y : Bool) → not (eqb (length p) password_size) ≡ y → (a : CallAnswer) × (h' : Hub) × (t' : List ℕ) × Starts h t p a h' t'
-    go true e y f = (call_answer.Refused call_cause.WrongTable, h, t, rw e)
-    go false e true f = (call_answer.Refused call_cause.WrongPassword, h, t, rw (e, f))
-    go false e false f = (call_answer.Done, fresh_hub (stored p), emptied t, rw (e, f))
+    go true e y f = (Err call_cause.WrongTable, h, t, rw e)
+    go false e true f = (Err call_cause.WrongPassword, h, t, rw (e, f))
+    go false e false f = (Ok tt, fresh_hub (stored p), emptied t, rw (e, f))
 
 pub enrol-any : (t : List ℕ) (n type : ℕ) → (a : CallAnswer) × (t' : List ℕ) × Enrols t n type a t'
 enrol-any t n type = go (not (eqb (length t) table_size)) refl (not (is_node n)) refl (in_use t n) refl
   where
     go : (x : Bool) → not (eqb (length t) table_size) ≡ x → (y : Bool) → not (is_node n) ≡ y → (z : Bool) → in_use t n ≡ z → (a : CallAnswer) × (t' : List ℕ) × Enrols t n type a t'
-    go true e y f z g = (call_answer.Refused call_cause.WrongTable, t, rw e)
-    go false e true f z g = (call_answer.Refused call_cause.WrongNode, t, rw (e, f))
-    go false e false f true g = (call_answer.Refused call_cause.NodeInUse, t, rw (e, f, g))
-    go false e false f false g = (call_answer.Done, enrolled t n type, rw (e, f, g))
+    go true e y f z g = (Err call_cause.WrongTable, t, rw e)
+    go false e true f z g = (Err call_cause.WrongNode, t, rw (e, f))
+    go false e false f true g = (Err call_cause.NodeInUse, t, rw (e, f, g))
+    go false e false f false g = (Ok tt, enrolled t n type, rw (e, f, g))
 
 pub close-any : (h : Hub) (s : Reading) (l : ℕ) → (a : CallAnswer) × (h' : Hub) × (e : Reading) × Closes h s l a h' e
 close-any h s l = go (not (ltb l line_count)) refl
   where
     go : (x : Bool) → not (ltb l line_count) ≡ x → (a : CallAnswer) × (h' : Hub) × (e : Reading) × Closes h s l a h' e
-    go true p = (call_answer.Refused call_cause.WrongLine, h, s, record { refusal = rw p; hub = rw p; state = rw p; kept = λ n q. refl; bounded = tt })
+    go true p = (Err call_cause.WrongLine, h, s, record { refusal = rw p; hub = rw p; state = rw p; kept = λ n q. refl; bounded = tt })
     go false p = (
-      call_answer.Done,
+      Ok tt,
       closed_line h l,
       emptied_reading,
       record { refusal = rw p; hub = rw p; state = rw p; kept = λ n q. absurd (none-ne-some n q); bounded = (refl, omega arith, tt) },
@@ -71,10 +65,10 @@ finish-any h x room = go (ltb (length room) (length (notice x))) refl (sessions.
   where
     go : (b : Bool) → ltb (length room) (length (notice x)) ≡ b → (o : Option sessions.Finished) → sessions.finish h.slots x ≡ o
         → (a : FinishAnswer) × (h' : Hub) × (left : List ℕ) × Finishes h x room a h' left
-    go b p none q = (finish_answer.Refused call_cause.NotOpen, h, room, record { answer = rw q; hub = rw q; room = rw q })
-    go true p (some f) q = (finish_answer.Refused call_cause.ShortRoom, h, room, record { answer = rw (p, q); hub = rw (p, q); room = rw (p, q) })
+    go b p none q = (Err call_cause.NotOpen, h, room, record { answer = rw q; hub = rw q; room = rw q })
+    go true p (some f) q = (Err call_cause.ShortRoom, h, room, record { answer = rw (p, q); hub = rw (p, q); room = rw (p, q) })
     go false p (some f) q = (
-      finish_answer.Finished f.line (length (notice x)),
+      Ok (record { line = f.line; len = length (notice x) }),
       with_slots h f.slots,
       notice x ++ drop (length (notice x)) room,
       record { answer = rw (p, q); hub = rw (p, q); room = rw (p, q) },
@@ -159,7 +153,7 @@ feed-any h t r l bytes space = go (feed_refusal h t (taken r) l bytes (length sp
     go (some n) p =
         let (c, z) = refusal_cause h t s l bytes (length space) n p in
         let e = sym (call_refused hub h t s l bytes (length space) n p) in (
-          feed.Refused c,
+          Err c,
           h,
           t,
           r,
@@ -179,7 +173,7 @@ feed-any h t r l bytes space = go (feed_refusal h t (taken r) l bytes (length sp
         let y = serve_if hub h t l x.outcome in
         let v = held-outcome s bytes (taken_reachable r) x.outcome refl in
         let e : settled hub x y ≡ call hub h t s l bytes (length space) = sym (call-read hub h t s l bytes (length space) p) in (
-          feed.Told x.used v.outcome (length y.reply),
+          Ok (record { used = x.used; outcome = v.outcome; len = length y.reply }),
           y.hub,
           y.table,
           v.reading,

@@ -1,5 +1,6 @@
 -- Demand 2, over whole lists of calls: a line is logged in exactly if it gave the right password after the last start and the last close
 -- of that line, or was logged in before the list and neither came.
+use Rattle.std.specs.Prelude as std
 use Rattle.std.specs.Prelude.{ℕ, ◌<◌, ◌≡◌, refl, List, [], ◌∷◌, Bool, true, false, cond, not, ◌&&◌, ◌||◌, length, set, get_or, ltb, eqb}
 use Rattle.std.proofs.Common.{sym, ap, ◌∙◌, arith, length-set, get_or-set_same, get_or-set_other, eqb-true, ne_eqb, ltb-false}
 use Rattle.std.proofs.lemmas.Bool.{false≢true, eqb-false}
@@ -46,7 +47,7 @@ enter_logins h t l d = rw (verdict_fixed rules.password_enter rules.password_siz
     entered s = cond s (record { status = rules.correct; hub = rules.with_login h l }) (record { status = rules.incorrect; hub = h })
 
     go : (b i s : Bool)
-        → (rules.by_verdict (cond b none (some lookup.frame_error)) (rules.failure h t)
+        → (rules.by_verdict (cond b std.None (std.Some lookup.frame_error)) (rules.failure h t)
         (cond (i || true) (rules.reply (entered s).hub t (password_entered (entered s).status)) (rules.failure h t rules.not_logged_in))).hub.logins
         ≡ cond (b && s) (set h.logins l 1) h.logins
     go true true true = refl

@@ -1,5 +1,6 @@
 -- Demand 2, over whole lists of calls: the password is that of the last start or change that was accepted, as it is stored, or that before the
 -- list where neither came.
+use Rattle.std.specs.Prelude as std
 use Rattle.std.specs.Prelude.{ℕ, ◌≡◌, refl, List, [], ◌∷◌, Bool, true, false, cond, ◌&&◌, ◌||◌, length, take, drop, get_or, ltb, eqb}
 use Rattle.std.proofs.Common.{sym, ap, ◌∙◌, eqb-true}
 use Rattle.std.proofs.lemmas.Bool.{false≢true}
@@ -50,7 +51,7 @@ change_password h t l d =
     changed s = cond s (record { status = rules.correct; hub = rules.with_password h new }) (record { status = rules.incorrect; hub = h })
 
     go : (b i s : Bool)
-        → (rules.by_verdict (cond b none (some lookup.frame_error)) (rules.failure h t)
+        → (rules.by_verdict (cond b std.None (std.Some lookup.frame_error)) (rules.failure h t)
         (cond (i || false) (rules.reply (changed s).hub t (password_changed (changed s).status)) (rules.failure h t rules.not_logged_in))).hub.password
         ≡ replaced_by (cond (b && (i && s)) (some new) none) h.password
     go true true true = refl

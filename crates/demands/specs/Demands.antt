@@ -1,10 +1,9 @@
 -- Demand 1, the words of demand 2, and the accident behind them, of any calls of the host and the serial service that keep their promises, in
 -- any order and number, each on what the last one left (Steps). Words in quotes are the papers'. Demand 2 is stated in proofs/Demands.antt,
 -- demand 3 in proofs/Demand3.antt.
-use Rattle.std.specs.Prelude.{ℕ, ◌≤◌, ◌<◌, ◌≡◌, List, [], ◌++◌, map, true, length, take, drop, ltb}
+use Rattle.std.specs.Prelude.{ℕ, ◌≤◌, ◌<◌, ◌≡◌, List, [], ◌++◌, Result, map, true, length, take, drop, ltb}
 use Rattle.std.proofs.Math.Option.{Option, none, some}
-use Rattle.frame.specs.declared.Written.{Written}
-use Rattle.frame.specs.declared.WrittenAt.{WrittenAt}
+use Rattle.frame.specs.declared.WriteRefusal.{WriteRefusal}
 use Rattle.frame.specs.Writer as writer
 use Rattle.frame.specs.Writer.{Writing, up_to, no_fit, write, write_at, Writes}
 use Rattle.frame.specs.WireLaws.{Unwritten}
@@ -83,10 +82,10 @@ pub record Demand1 : Type 0 where
   pub untouched : {m v : Memory} {s : Step} {o : Return} → Made m s o v → (n : ℕ) → refusal_told o ≡ some n → Untouched m s o v
   -- the frame writer, which keeps nothing: refused exactly if its data are above 250 bytes (10), or else longer than the room once written (9),
   -- and then it leaves the room as it was lent
-  pub write_exactly : (room : List ℕ) (c : ℕ) (d : List ℕ) (r : Written) (left : List ℕ) → Writes (write room c d) (writer.told r) left → writing_refusal (writer.told r) ≡ write_refusal (length room) c d
-  pub write_untouched : (room : List ℕ) (c : ℕ) (d : List ℕ) (r : Written) (left : List ℕ) → Writes (write room c d) (writer.told r) left → (n : ℕ) → writing_refusal (writer.told r) ≡ some n → left ≡ room
+  pub write_exactly : (room : List ℕ) (c : ℕ) (d : List ℕ) (r : Result ℕ WriteRefusal) (left : List ℕ) → Writes (write room c d) (writer.told r) left → writing_refusal (writer.told r) ≡ write_refusal (length room) c d
+  pub write_untouched : (room : List ℕ) (c : ℕ) (d : List ℕ) (r : Result ℕ WriteRefusal) (left : List ℕ) → Writes (write room c d) (writer.told r) left → (n : ℕ) → writing_refusal (writer.told r) ≡ some n → left ≡ room
   -- and so where it writes at an offset: refused, or without room for the whole frame, it leaves the room
-  pub place_untouched : (room : List ℕ) (i c : ℕ) (d : List ℕ) (r : WrittenAt) (left : List ℕ) → Writes (write_at room i c d) (writer.told_at r) left → Unwritten (writer.told_at r) → left ≡ room
+  pub place_untouched : (room : List ℕ) (i c : ℕ) (d : List ℕ) (r : Result ℕ WriteRefusal) (left : List ℕ) → Writes (write_at room i c d) (writer.told_at r) left → Unwritten (writer.told_at r) → left ≡ room
   -- so a list without its refused calls is made as well: every other gives the same, and the end is the same
   pub without : {m e : Memory} {ss : List Step} {os : List Return} → Steps m ss os e
       → Steps m (unmarked (map is_refused os) ss) (unmarked (map is_refused os) os) e

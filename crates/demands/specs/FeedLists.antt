@@ -4,9 +4,8 @@ use Rattle.std.specs.Prelude.{ℕ, List, [], ◌∷◌}
 use Rattle.line.specs.declared.Reading.{Reading}
 use Rattle.feeds.specs.Service.{Lent, Got, record_for, left_by}
 use Rattle.rules.specs.declared.Hub.{Hub}
-use Rattle.rules.specs.declared.FeedAnswer.{FeedAnswer}
 use Rattle.rules.specs.Hub.{hub}
-use Rattle.rules.specs.Answers.{fed_of}
+use Rattle.rules.specs.Answers.{FeedAnswer, fed_of}
 use Rattle.rules.specs.Promises.{Feeds}
 use Rattle.demands.specs.Steps.{Memory}
 

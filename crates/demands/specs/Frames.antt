@@ -1,10 +1,10 @@
 -- "Frames are read and written exactly as the KLF 200 specification 3.18 says" (demand 2): the wire of a line, and what the calls write, in
 -- document 01's words. That reading is exact is stated and proved in proofs/Frames.antt: ReadExactly.
-use Rattle.std.specs.Prelude.{ℕ, ◌≤◌, ◌≡◌, List, [], ◌∷◌, ◌++◌, map, length, take, drop}
+use Rattle.std.specs.Prelude.{ℕ, ◌≤◌, ◌≡◌, List, [], ◌∷◌, ◌++◌, Result, map, length, take, drop}
 use Rattle.std.proofs.Math.Option.{Option}
 use Rattle.frame.specs.Line.{written}
 use Rattle.frame.specs.Frame.{Outcome, max_data}
-use Rattle.frame.specs.declared.Written.{Written}
+use Rattle.frame.specs.declared.WriteRefusal.{WriteRefusal}
 use Rattle.frame.specs.Writer as writer
 use Rattle.frame.specs.Writer.{up_to, write, Writes}
 use Rattle.frame.specs.Reader.{outcomes, emptied, step, taken}
@@ -33,6 +33,6 @@ pub record WrittenExactly : Type 0 where
   pub by_feed : {m v : Memory} {g : Lent} {o : Got hub} → Made m (feed g) (fed o) v → (u : ℕ) (y : Option Outcome) (k : ℕ) → o.answer ≡ told u y k → Frames (take k o.room)
   pub by_finish : {m v : Memory} {x : ℕ} {room : List ℕ} {o : FinishedSession} → Made m (finish x room) (finished o) v → (l k : ℕ) → o.answer ≡ finished_on l k → Frames (take k o.room)
   -- what the frame writer writes, unless it refuses, is one, of its command and data; what stood behind it stays
-  pub by_writer : (room : List ℕ) (c : ℕ) (d : List ℕ) (r : Written) (left : List ℕ) → Writes (write room c d) (writer.told r) left → (n : ℕ) → writer.told r ≡ up_to n → Wrote room c d n left
+  pub by_writer : (room : List ℕ) (c : ℕ) (d : List ℕ) (r : Result ℕ WriteRefusal) (left : List ℕ) → Writes (write room c d) (writer.told r) left → (n : ℕ) → writer.told r ≡ up_to n → Wrote room c d n left
   -- they are read as these frames and nothing else
   pub read_back : (w : List ℕ) (x : Frames w) → outcomes step emptied w ≡ map frame_of x.frames

@@ -14,10 +14,7 @@ use Rattle.feeds.specs.Service.{Lent, Got, entry_of, record_for, left_by}
 use Rattle.rules.specs.Hub as rules
 use Rattle.rules.specs.Hub.{Started, Enrolled, Finish, refused_finish, finished_on, is_logged_in, hub}
 use Rattle.rules.specs.declared.Hub.{Hub}
-use Rattle.rules.specs.declared.CallAnswer.{CallAnswer}
-use Rattle.rules.specs.declared.FinishAnswer.{FinishAnswer}
-use Rattle.rules.specs.declared.FeedAnswer.{FeedAnswer}
-use Rattle.rules.specs.Answers.{refusal_of, started_of, enrolled_of, ClosedLine, closed_of, FinishedSession, finished_of, answer_of, fed_of}
+use Rattle.rules.specs.Answers.{CallAnswer, FinishAnswer, FeedAnswer, refusal_of, started_of, enrolled_of, ClosedLine, closed_of, FinishedSession, finished_of, answer_of, fed_of}
 use Rattle.rules.specs.Promises.{Starts, Enrols, Closes, Finishes, Feeds}
 use Rattle.demands.specs.Calls as calls
 use Rattle.demands.specs.Calls.{is_password, unless_refused, new_password, replaced_by, started_with}

@@ -1,6 +1,5 @@
 -- The commands that document 01 names, and lengths at the edges of a range.
-use Rattle.std.specs.Prelude.{◌≡◌, refl, List, [], ◌∷◌, map}
-use Rattle.std.proofs.Math.Option.{none, some}
+use Rattle.std.specs.Prelude.{◌≡◌, refl, List, [], ◌∷◌, map, Some, None}
 use Rattle.directory.specs.declared.Entry.{Entry}
 use Rattle.directory.specs.Directory.{entry, directory}
 use Rattle.directory.specs.Lookup.{find, verdict_of, verdict}
@@ -20,7 +19,7 @@ named =
     ∷ entry 0x0000 1 1
     ∷ []
 
-named_found : map (λ (e : Entry). find e.number directory) named ≡ map some named
+named_found : map (λ (e : Entry). find e.number directory) named ≡ map Some named
 unfolding find directory named
 named_found = refl
 
@@ -31,10 +30,10 @@ edges :
     ∷ verdict 0x0411 70 ∷ verdict 0x0411 71 ∷ verdict 0x0411 247 ∷ verdict 0x0411 248
     ∷ verdict 0x020A 2 ∷ verdict 0x020B 2
     ∷ []
-    ≡ none ∷ none
-    ∷ some 2 ∷ none ∷ none ∷ some 2
-    ∷ some 2 ∷ none ∷ none ∷ some 2
-    ∷ some 1 ∷ some 1
+    ≡ None ∷ None
+    ∷ Some 2 ∷ None ∷ None ∷ Some 2
+    ∷ Some 2 ∷ None ∷ None ∷ Some 2
+    ∷ Some 1 ∷ Some 1
     ∷ []
 unfolding verdict verdict_of find directory
 edges = refl

@@ -1,7 +1,5 @@
 -- The directory's rule (document 01): entries strictly ascending by number, each with a range of lengths that data can have.
-use Rattle.std.specs.Prelude.{ℕ, suc, ◌≤◌, ◌<◌, ◌≡◌, List, [], ◌∷◌, Bool, true, ◌&&◌, leb}
-use Rattle.std.proofs.Math.Option.{some}
-use Rattle.std.proofs.Math.ListN.{get_elem?}
+use Rattle.std.specs.Prelude.{ℕ, suc, ◌≤◌, ◌<◌, ◌≡◌, List, [], ◌∷◌, Bool, true, ◌&&◌, leb, Some, slice_get}
 use Rattle.directory.specs.declared.Entry.{Entry}
 
 -- a command has two bytes, data have 0 to 250
@@ -29,4 +27,4 @@ pub record Sound (e : Entry) : Type 0 where
   pub limit : e.greatest ≤ max_data
 
 abbrev pub Ascending : List Entry → Type 0
-Ascending es = (j k : ℕ) (d e : Entry) → get_elem? es j ≡ some d → get_elem? es k ≡ some e → j < k → d.number < e.number
+Ascending es = (j k : ℕ) (d e : Entry) → slice_get es j ≡ Some d → slice_get es k ≡ Some e → j < k → d.number < e.number

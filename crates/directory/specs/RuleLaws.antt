@@ -1,8 +1,7 @@
 -- A list that passes the test: its entries one by one, and two by two.
-use Rattle.std.specs.Prelude.{ℕ, zero, suc, ◌≤◌, ◌≡◌, List, [], ◌∷◌, Bool, true, false, ◌&&◌, T, leb}
-use Rattle.std.proofs.Math.Option.{some, none-ne-some, some-injective}
+use Rattle.std.specs.Prelude.{ℕ, zero, suc, ◌≤◌, ◌≡◌, List, [], ◌∷◌, Bool, true, false, ◌&&◌, T, leb, Some, slice_get}
 use Rattle.std.proofs.Common.{le_trans, le_of_lt, le_of_suc-le-suc, not-suc-le-zero, leb→le}
-use Rattle.std.proofs.Math.ListN.{get_elem?}
+use Rattle.std.proofs.lemmas.Option.{none-some, same_Some}
 use Rattle.directory.specs.declared.Entry.{Entry}
 use Rattle.directory.specs.Rule.{max_command, max_data, sound, ruled, Sound, Ascending}
 
@@ -33,21 +32,21 @@ passed low e es t =
     let c = both (sound e) (ruled (suc e.number) es) b.1 in
     record { from = leb→le low e.number b.0; alone = passed_sound e c.0; rest = c.1 }
 
-pub ruled-from : (low : ℕ) (es : List Entry) → T (ruled low es) → (k : ℕ) (e : Entry) → get_elem? es k ≡ some e → low ≤ e.number
-ruled-from low [] t k e h = absurd (none-ne-some e h)
-ruled-from low (x ∷ es) t zero e h = rw (← some-injective x e h) (passed low x es t).from
+pub ruled-from : (low : ℕ) (es : List Entry) → T (ruled low es) → (k : ℕ) (e : Entry) → slice_get es k ≡ Some e → low ≤ e.number
+ruled-from low [] t k e h = absurd (none-some e h)
+ruled-from low (x ∷ es) t zero e h = rw (← same_Some x e h) (passed low x es t).from
 ruled-from low (x ∷ es) t (suc k) e h =
     le_trans (passed low x es t).from (le_of_lt (ruled-from (suc x.number) es (passed low x es t).rest k e h))
 
-pub ruled-sound : (low : ℕ) (es : List Entry) → T (ruled low es) → (k : ℕ) (e : Entry) → get_elem? es k ≡ some e → Sound e
-ruled-sound low [] t k e h = absurd (none-ne-some e h)
-ruled-sound low (x ∷ es) t zero e h = rw (← some-injective x e h) (passed low x es t).alone
+pub ruled-sound : (low : ℕ) (es : List Entry) → T (ruled low es) → (k : ℕ) (e : Entry) → slice_get es k ≡ Some e → Sound e
+ruled-sound low [] t k e h = absurd (none-some e h)
+ruled-sound low (x ∷ es) t zero e h = rw (← same_Some x e h) (passed low x es t).alone
 ruled-sound low (x ∷ es) t (suc k) e h = ruled-sound (suc x.number) es (passed low x es t).rest k e h
 
 pub ruled_ascending : (low : ℕ) (es : List Entry) → T (ruled low es) → Ascending es
-ruled_ascending low [] t j k d e g h l = absurd (none-ne-some d g)
+ruled_ascending low [] t j k d e g h l = absurd (none-some d g)
 ruled_ascending low (x ∷ es) t j zero d e g h l = absurd (not-suc-le-zero l)
 ruled_ascending low (x ∷ es) t zero (suc k) d e g h l =
-    rw (← some-injective x d g) (ruled-from (suc x.number) es (passed low x es t).rest k e h)
+    rw (← same_Some x d g) (ruled-from (suc x.number) es (passed low x es t).rest k e h)
 ruled_ascending low (x ∷ es) t (suc j) (suc k) d e g h l =
     ruled_ascending (suc x.number) es (passed low x es t).rest j k d e g h (le_of_suc-le-suc l)

@@ -1,467 +1,170 @@
-// The entries of the directory: three numbers each, a constant for each of the three.
-// What stands at a place of the three is the definition's entry there: specs/Directory.antt.
+// The entries of the directory, an entry on a line: the command, and the least and the greatest length of its data.
+// What stands at a place is the definition's entry there: specs/Directory.antt.
+use crate::Entry;
 
 // How many entries there are.
 pub const COUNT: usize = 150;
 
-// The commands, ascending.
-pub(crate) const NUMBERS: [u16; COUNT] = [
-    0x0000, // GW_ERROR_NTF
-    0x0001, // GW_REBOOT_REQ
-    0x0002, // GW_REBOOT_CFM
-    0x0003, // GW_SET_FACTORY_DEFAULT_REQ
-    0x0004, // GW_SET_FACTORY_DEFAULT_CFM
-    0x0008, // GW_GET_VERSION_REQ
-    0x0009, // GW_GET_VERSION_CFM
-    0x000A, // GW_GET_PROTOCOL_VERSION_REQ
-    0x000B, // GW_GET_PROTOCOL_VERSION_CFM
-    0x000C, // GW_GET_STATE_REQ
-    0x000D, // GW_GET_STATE_CFM
-    0x000E, // GW_LEAVE_LEARN_STATE_REQ
-    0x000F, // GW_LEAVE_LEARN_STATE_CFM
-    0x00E0, // GW_GET_NETWORK_SETUP_REQ
-    0x00E1, // GW_GET_NETWORK_SETUP_CFM
-    0x00E2, // GW_SET_NETWORK_SETUP_REQ
-    0x00E3, // GW_SET_NETWORK_SETUP_CFM
-    0x0100, // GW_CS_GET_SYSTEMTABLE_DATA_REQ
-    0x0101, // GW_CS_GET_SYSTEMTABLE_DATA_CFM
-    0x0102, // GW_CS_GET_SYSTEMTABLE_DATA_NTF
-    0x0103, // GW_CS_DISCOVER_NODES_REQ
-    0x0104, // GW_CS_DISCOVER_NODES_CFM
-    0x0105, // GW_CS_DISCOVER_NODES_NTF
-    0x0106, // GW_CS_REMOVE_NODES_REQ
-    0x0107, // GW_CS_REMOVE_NODES_CFM
-    0x0108, // GW_CS_VIRGIN_STATE_REQ
-    0x0109, // GW_CS_VIRGIN_STATE_CFM
-    0x010A, // GW_CS_CONTROLLER_COPY_REQ
-    0x010B, // GW_CS_CONTROLLER_COPY_CFM
-    0x010C, // GW_CS_CONTROLLER_COPY_NTF
-    0x010D, // GW_CS_CONTROLLER_COPY_CANCEL_NTF
-    0x010E, // GW_CS_RECEIVE_KEY_REQ
-    0x010F, // GW_CS_RECEIVE_KEY_CFM
-    0x0110, // GW_CS_RECEIVE_KEY_NTF
-    0x0111, // GW_CS_PGC_JOB_NTF
-    0x0112, // GW_CS_SYSTEM_TABLE_UPDATE_NTF
-    0x0113, // GW_CS_GENERATE_NEW_KEY_REQ
-    0x0114, // GW_CS_GENERATE_NEW_KEY_CFM
-    0x0115, // GW_CS_GENERATE_NEW_KEY_NTF
-    0x0116, // GW_CS_REPAIR_KEY_REQ
-    0x0117, // GW_CS_REPAIR_KEY_CFM
-    0x0118, // GW_CS_REPAIR_KEY_NTF
-    0x0119, // GW_CS_ACTIVATE_CONFIGURATION_MODE_REQ
-    0x011A, // GW_CS_ACTIVATE_CONFIGURATION_MODE_CFM
-    0x0200, // GW_GET_NODE_INFORMATION_REQ
-    0x0201, // GW_GET_NODE_INFORMATION_CFM
-    0x0202, // GW_GET_ALL_NODES_INFORMATION_REQ
-    0x0203, // GW_GET_ALL_NODES_INFORMATION_CFM
-    0x0204, // GW_GET_ALL_NODES_INFORMATION_NTF
-    0x0205, // GW_GET_ALL_NODES_INFORMATION_FINISHED_NTF
-    0x0206, // GW_SET_NODE_VARIATION_REQ
-    0x0207, // GW_SET_NODE_VARIATION_CFM
-    0x0208, // GW_SET_NODE_NAME_REQ
-    0x0209, // GW_SET_NODE_NAME_CFM
-    0x020C, // GW_NODE_INFORMATION_CHANGED_NTF
-    0x020D, // GW_SET_NODE_ORDER_AND_PLACEMENT_REQ
-    0x020E, // GW_SET_NODE_ORDER_AND_PLACEMENT_CFM
-    0x0210, // GW_GET_NODE_INFORMATION_NTF
-    0x0211, // GW_NODE_STATE_POSITION_CHANGED_NTF
-    0x0220, // GW_GET_GROUP_INFORMATION_REQ
-    0x0221, // GW_GET_GROUP_INFORMATION_CFM
-    0x0222, // GW_SET_GROUP_INFORMATION_REQ
-    0x0223, // GW_SET_GROUP_INFORMATION_CFM
-    0x0224, // GW_GROUP_INFORMATION_CHANGED_NTF
-    0x0225, // GW_DELETE_GROUP_REQ
-    0x0226, // GW_DELETE_GROUP_CFM
-    0x0227, // GW_NEW_GROUP_REQ
-    0x0228, // GW_NEW_GROUP_CFM
-    0x0229, // GW_GET_ALL_GROUPS_INFORMATION_REQ
-    0x022A, // GW_GET_ALL_GROUPS_INFORMATION_CFM
-    0x022B, // GW_GET_ALL_GROUPS_INFORMATION_NTF
-    0x022C, // GW_GET_ALL_GROUPS_INFORMATION_FINISHED_NTF
-    0x022D, // GW_GROUP_DELETED_NTF
-    0x0230, // GW_GET_GROUP_INFORMATION_NTF
-    0x0240, // GW_HOUSE_STATUS_MONITOR_ENABLE_REQ
-    0x0241, // GW_HOUSE_STATUS_MONITOR_ENABLE_CFM
-    0x0242, // GW_HOUSE_STATUS_MONITOR_DISABLE_REQ
-    0x0243, // GW_HOUSE_STATUS_MONITOR_DISABLE_CFM
-    0x0300, // GW_COMMAND_SEND_REQ
-    0x0301, // GW_COMMAND_SEND_CFM
-    0x0302, // GW_COMMAND_RUN_STATUS_NTF
-    0x0303, // GW_COMMAND_REMAINING_TIME_NTF
-    0x0304, // GW_SESSION_FINISHED_NTF
-    0x0305, // GW_STATUS_REQUEST_REQ
-    0x0306, // GW_STATUS_REQUEST_CFM
-    0x0307, // GW_STATUS_REQUEST_NTF
-    0x0308, // GW_WINK_SEND_REQ
-    0x0309, // GW_WINK_SEND_CFM
-    0x030A, // GW_WINK_SEND_NTF
-    0x0310, // GW_SET_LIMITATION_REQ
-    0x0311, // GW_SET_LIMITATION_CFM
-    0x0312, // GW_GET_LIMITATION_STATUS_REQ
-    0x0313, // GW_GET_LIMITATION_STATUS_CFM
-    0x0314, // GW_LIMITATION_STATUS_NTF
-    0x0320, // GW_MODE_SEND_REQ
-    0x0321, // GW_MODE_SEND_CFM
-    0x0322, // GW_MODE_SEND_NTF
-    0x0400, // GW_INITIALIZE_SCENE_REQ
-    0x0401, // GW_INITIALIZE_SCENE_CFM
-    0x0402, // GW_INITIALIZE_SCENE_NTF
-    0x0403, // GW_INITIALIZE_SCENE_CANCEL_REQ
-    0x0404, // GW_INITIALIZE_SCENE_CANCEL_CFM
-    0x0405, // GW_RECORD_SCENE_REQ
-    0x0406, // GW_RECORD_SCENE_CFM
-    0x0407, // GW_RECORD_SCENE_NTF
-    0x0408, // GW_DELETE_SCENE_REQ
-    0x0409, // GW_DELETE_SCENE_CFM
-    0x040A, // GW_RENAME_SCENE_REQ
-    0x040B, // GW_RENAME_SCENE_CFM
-    0x040C, // GW_GET_SCENE_LIST_REQ
-    0x040D, // GW_GET_SCENE_LIST_CFM
-    0x040E, // GW_GET_SCENE_LIST_NTF
-    0x040F, // GW_GET_SCENE_INFOAMATION_REQ
-    0x0410, // GW_GET_SCENE_INFOAMATION_CFM
-    0x0411, // GW_GET_SCENE_INFOAMATION_NTF
-    0x0412, // GW_ACTIVATE_SCENE_REQ
-    0x0413, // GW_ACTIVATE_SCENE_CFM
-    0x0415, // GW_STOP_SCENE_REQ
-    0x0416, // GW_STOP_SCENE_CFM
-    0x0419, // GW_SCENE_INFORMATION_CHANGED_NTF
-    0x0447, // GW_ACTIVATE_PRODUCTGROUP_REQ
-    0x0448, // GW_ACTIVATE_PRODUCTGROUP_CFM
-    0x0449, // GW_ACTIVATE_PRODUCTGROUP_NTF
-    0x0460, // GW_GET_CONTACT_INPUT_LINK_LIST_REQ
-    0x0461, // GW_GET_CONTACT_INPUT_LINK_LIST_CFM
-    0x0462, // GW_SET_CONTACT_INPUT_LINK_REQ
-    0x0463, // GW_SET_CONTACT_INPUT_LINK_CFM
-    0x0464, // GW_REMOVE_CONTACT_INPUT_LINK_REQ
-    0x0465, // GW_REMOVE_CONTACT_INPUT_LINK_CFM
-    0x0500, // GW_GET_ACTIVATION_LOG_HEADER_REQ
-    0x0501, // GW_GET_ACTIVATION_LOG_HEADER_CFM
-    0x0502, // GW_CLEAR_ACTIVATION_LOG_REQ
-    0x0503, // GW_CLEAR_ACTIVATION_LOG_CFM
-    0x0504, // GW_GET_ACTIVATION_LOG_LINE_REQ
-    0x0505, // GW_GET_ACTIVATION_LOG_LINE_CFM
-    0x0506, // GW_ACTIVATION_LOG_UPDATED_NTF
-    0x0507, // GW_GET_MULTIPLE_ACTIVATION_LOG_LINES_REQ
-    0x0508, // GW_GET_MULTIPLE_ACTIVATION_LOG_LINES_NTF
-    0x0509, // GW_GET_MULTIPLE_ACTIVATION_LOG_LINES_CFM
-    0x2000, // GW_SET_UTC_REQ
-    0x2001, // GW_SET_UTC_CFM
-    0x2002, // GW_RTC_SET_TIME_ZONE_REQ
-    0x2003, // GW_RTC_SET_TIME_ZONE_CFM
-    0x2004, // GW_GET_LOCAL_TIME_REQ
-    0x2005, // GW_GET_LOCAL_TIME_CFM
-    0x3000, // GW_PASSWORD_ENTER_REQ
-    0x3001, // GW_PASSWORD_ENTER_CFM
-    0x3002, // GW_PASSWORD_CHANGE_REQ
-    0x3003, // GW_PASSWORD_CHANGE_CFM
-    0x3004, // GW_PASSWORD_CHANGE_NTF
-];
+macro_rules! entry {
+    ($number:literal, $least:literal, $greatest:literal) => {
+        Entry {
+            number: $number,
+            least: $least,
+            greatest: $greatest,
+        }
+    };
+}
 
-// The least length of the data of each.
-pub(crate) const LEAST: [u8; COUNT] = [
-    1, // 0000
-    0, // 0001
-    0, // 0002
-    0, // 0003
-    0, // 0004
-    0, // 0008
-    9, // 0009
-    0, // 000A
-    4, // 000B
-    0, // 000C
-    6, // 000D
-    0, // 000E
-    1, // 000F
-    0, // 00E0
-    13, // 00E1
-    13, // 00E2
-    0, // 00E3
-    0, // 0100
-    0, // 0101
-    2, // 0102
-    1, // 0103
-    0, // 0104
-    131, // 0105
-    26, // 0106
-    1, // 0107
-    0, // 0108
-    0, // 0109
-    1, // 010A
-    0, // 010B
-    2, // 010C
-    0, // 010D
-    0, // 010E
-    0, // 010F
-    53, // 0110
-    3, // 0111
-    52, // 0112
-    0, // 0113
-    0, // 0114
-    53, // 0115
-    0, // 0116
-    0, // 0117
-    53, // 0118
-    26, // 0119
-    79, // 011A
-    1, // 0200
-    2, // 0201
-    0, // 0202
-    2, // 0203
-    124, // 0204
-    0, // 0205
-    2, // 0206
-    2, // 0207
-    65, // 0208
-    2, // 0209
-    69, // 020C
-    4, // 020D
-    2, // 020E
-    124, // 0210
-    20, // 0211
-    1, // 0220
-    2, // 0221
-    99, // 0222
-    2, // 0223
-    2, // 0224
-    1, // 0225
-    2, // 0226
-    96, // 0227
-    2, // 0228
-    2, // 0229
-    2, // 022A
-    99, // 022B
-    0, // 022C
-    1, // 022D
-    99, // 0230
-    0, // 0240
-    0, // 0241
-    0, // 0242
-    0, // 0243
-    66, // 0300
-    3, // 0301
-    13, // 0302
-    6, // 0303
-    2, // 0304
-    26, // 0305
-    3, // 0306
-    18, // 0307
-    27, // 0308
-    3, // 0309
-    2, // 030A
-    31, // 0310
-    3, // 0311
-    25, // 0312
-    3, // 0313
-    10, // 0314
-    31, // 0320
-    3, // 0321
-    0, // 0322
-    0, // 0400
-    1, // 0401
-    26, // 0402
-    0, // 0403
-    1, // 0404
-    64, // 0405
-    1, // 0406
-    2, // 0407
-    1, // 0408
-    2, // 0409
-    65, // 040A
-    2, // 040B
-    0, // 040C
-    1, // 040D
-    2, // 040E
-    1, // 040F
-    2, // 0410
-    71, // 0411
-    6, // 0412
-    3, // 0413
-    5, // 0415
-    3, // 0416
-    2, // 0419
-    13, // 0447
-    3, // 0448
-    0, // 0449
-    0, // 0460
-    161, // 0461
-    17, // 0462
-    2, // 0463
-    1, // 0464
-    2, // 0465
-    0, // 0500
-    4, // 0501
-    0, // 0502
-    0, // 0503
-    2, // 0504
-    17, // 0505
-    0, // 0506
-    4, // 0507
-    17, // 0508
-    3, // 0509
-    4, // 2000
-    0, // 2001
-    64, // 2002
-    1, // 2003
-    0, // 2004
-    15, // 2005
-    32, // 3000
-    1, // 3001
-    64, // 3002
-    1, // 3003
-    32, // 3004
-];
-
-// The greatest length of the data of each.
-pub(crate) const GREATEST: [u8; COUNT] = [
-    1, // 0000
-    0, // 0001
-    0, // 0002
-    0, // 0003
-    0, // 0004
-    0, // 0008
-    9, // 0009
-    0, // 000A
-    4, // 000B
-    0, // 000C
-    6, // 000D
-    0, // 000E
-    1, // 000F
-    0, // 00E0
-    13, // 00E1
-    13, // 00E2
-    0, // 00E3
-    0, // 0100
-    0, // 0101
-    112, // 0102
-    1, // 0103
-    0, // 0104
-    131, // 0105
-    26, // 0106
-    1, // 0107
-    0, // 0108
-    0, // 0109
-    1, // 010A
-    0, // 010B
-    2, // 010C
-    0, // 010D
-    0, // 010E
-    0, // 010F
-    53, // 0110
-    3, // 0111
-    52, // 0112
-    0, // 0113
-    0, // 0114
-    53, // 0115
-    0, // 0116
-    0, // 0117
-    53, // 0118
-    26, // 0119
-    79, // 011A
-    1, // 0200
-    2, // 0201
-    0, // 0202
-    2, // 0203
-    124, // 0204
-    0, // 0205
-    2, // 0206
-    2, // 0207
-    65, // 0208
-    2, // 0209
-    69, // 020C
-    4, // 020D
-    2, // 020E
-    124, // 0210
-    20, // 0211
-    1, // 0220
-    2, // 0221
-    99, // 0222
-    2, // 0223
-    100, // 0224
-    1, // 0225
-    2, // 0226
-    96, // 0227
-    2, // 0228
-    2, // 0229
-    2, // 022A
-    99, // 022B
-    0, // 022C
-    1, // 022D
-    99, // 0230
-    0, // 0240
-    0, // 0241
-    0, // 0242
-    0, // 0243
-    66, // 0300
-    3, // 0301
-    13, // 0302
-    6, // 0303
-    2, // 0304
-    26, // 0305
-    3, // 0306
-    59, // 0307
-    27, // 0308
-    3, // 0309
-    2, // 030A
-    31, // 0310
-    3, // 0311
-    25, // 0312
-    3, // 0313
-    10, // 0314
-    31, // 0320
-    3, // 0321
-    250, // 0322
-    0, // 0400
-    1, // 0401
-    26, // 0402
-    0, // 0403
-    1, // 0404
-    64, // 0405
-    1, // 0406
-    2, // 0407
-    1, // 0408
-    2, // 0409
-    65, // 040A
-    2, // 040B
-    0, // 040C
-    1, // 040D
-    197, // 040E
-    1, // 040F
-    2, // 0410
-    247, // 0411
-    6, // 0412
-    3, // 0413
-    5, // 0415
-    3, // 0416
-    2, // 0419
-    13, // 0447
-    3, // 0448
-    250, // 0449
-    0, // 0460
-    171, // 0461
-    17, // 0462
-    2, // 0463
-    1, // 0464
-    2, // 0465
-    0, // 0500
-    4, // 0501
-    0, // 0502
-    0, // 0503
-    2, // 0504
-    17, // 0505
-    0, // 0506
-    4, // 0507
-    17, // 0508
-    3, // 0509
-    4, // 2000
-    0, // 2001
-    64, // 2002
-    1, // 2003
-    0, // 2004
-    15, // 2005
-    32, // 3000
-    1, // 3001
-    64, // 3002
-    1, // 3003
-    32, // 3004
+// Ascending by command. It is a static, since compiled code may copy a constant at each use.
+pub(crate) static ENTRIES: [Entry; COUNT] = [
+    entry!(0x0000, 1, 1), // GW_ERROR_NTF
+    entry!(0x0001, 0, 0), // GW_REBOOT_REQ
+    entry!(0x0002, 0, 0), // GW_REBOOT_CFM
+    entry!(0x0003, 0, 0), // GW_SET_FACTORY_DEFAULT_REQ
+    entry!(0x0004, 0, 0), // GW_SET_FACTORY_DEFAULT_CFM
+    entry!(0x0008, 0, 0), // GW_GET_VERSION_REQ
+    entry!(0x0009, 9, 9), // GW_GET_VERSION_CFM
+    entry!(0x000A, 0, 0), // GW_GET_PROTOCOL_VERSION_REQ
+    entry!(0x000B, 4, 4), // GW_GET_PROTOCOL_VERSION_CFM
+    entry!(0x000C, 0, 0), // GW_GET_STATE_REQ
+    entry!(0x000D, 6, 6), // GW_GET_STATE_CFM
+    entry!(0x000E, 0, 0), // GW_LEAVE_LEARN_STATE_REQ
+    entry!(0x000F, 1, 1), // GW_LEAVE_LEARN_STATE_CFM
+    entry!(0x00E0, 0, 0), // GW_GET_NETWORK_SETUP_REQ
+    entry!(0x00E1, 13, 13), // GW_GET_NETWORK_SETUP_CFM
+    entry!(0x00E2, 13, 13), // GW_SET_NETWORK_SETUP_REQ
+    entry!(0x00E3, 0, 0), // GW_SET_NETWORK_SETUP_CFM
+    entry!(0x0100, 0, 0), // GW_CS_GET_SYSTEMTABLE_DATA_REQ
+    entry!(0x0101, 0, 0), // GW_CS_GET_SYSTEMTABLE_DATA_CFM
+    entry!(0x0102, 2, 112), // GW_CS_GET_SYSTEMTABLE_DATA_NTF
+    entry!(0x0103, 1, 1), // GW_CS_DISCOVER_NODES_REQ
+    entry!(0x0104, 0, 0), // GW_CS_DISCOVER_NODES_CFM
+    entry!(0x0105, 131, 131), // GW_CS_DISCOVER_NODES_NTF
+    entry!(0x0106, 26, 26), // GW_CS_REMOVE_NODES_REQ
+    entry!(0x0107, 1, 1), // GW_CS_REMOVE_NODES_CFM
+    entry!(0x0108, 0, 0), // GW_CS_VIRGIN_STATE_REQ
+    entry!(0x0109, 0, 0), // GW_CS_VIRGIN_STATE_CFM
+    entry!(0x010A, 1, 1), // GW_CS_CONTROLLER_COPY_REQ
+    entry!(0x010B, 0, 0), // GW_CS_CONTROLLER_COPY_CFM
+    entry!(0x010C, 2, 2), // GW_CS_CONTROLLER_COPY_NTF
+    entry!(0x010D, 0, 0), // GW_CS_CONTROLLER_COPY_CANCEL_NTF
+    entry!(0x010E, 0, 0), // GW_CS_RECEIVE_KEY_REQ
+    entry!(0x010F, 0, 0), // GW_CS_RECEIVE_KEY_CFM
+    entry!(0x0110, 53, 53), // GW_CS_RECEIVE_KEY_NTF
+    entry!(0x0111, 3, 3), // GW_CS_PGC_JOB_NTF
+    entry!(0x0112, 52, 52), // GW_CS_SYSTEM_TABLE_UPDATE_NTF
+    entry!(0x0113, 0, 0), // GW_CS_GENERATE_NEW_KEY_REQ
+    entry!(0x0114, 0, 0), // GW_CS_GENERATE_NEW_KEY_CFM
+    entry!(0x0115, 53, 53), // GW_CS_GENERATE_NEW_KEY_NTF
+    entry!(0x0116, 0, 0), // GW_CS_REPAIR_KEY_REQ
+    entry!(0x0117, 0, 0), // GW_CS_REPAIR_KEY_CFM
+    entry!(0x0118, 53, 53), // GW_CS_REPAIR_KEY_NTF
+    entry!(0x0119, 26, 26), // GW_CS_ACTIVATE_CONFIGURATION_MODE_REQ
+    entry!(0x011A, 79, 79), // GW_CS_ACTIVATE_CONFIGURATION_MODE_CFM
+    entry!(0x0200, 1, 1), // GW_GET_NODE_INFORMATION_REQ
+    entry!(0x0201, 2, 2), // GW_GET_NODE_INFORMATION_CFM
+    entry!(0x0202, 0, 0), // GW_GET_ALL_NODES_INFORMATION_REQ
+    entry!(0x0203, 2, 2), // GW_GET_ALL_NODES_INFORMATION_CFM
+    entry!(0x0204, 124, 124), // GW_GET_ALL_NODES_INFORMATION_NTF
+    entry!(0x0205, 0, 0), // GW_GET_ALL_NODES_INFORMATION_FINISHED_NTF
+    entry!(0x0206, 2, 2), // GW_SET_NODE_VARIATION_REQ
+    entry!(0x0207, 2, 2), // GW_SET_NODE_VARIATION_CFM
+    entry!(0x0208, 65, 65), // GW_SET_NODE_NAME_REQ
+    entry!(0x0209, 2, 2), // GW_SET_NODE_NAME_CFM
+    entry!(0x020C, 69, 69), // GW_NODE_INFORMATION_CHANGED_NTF
+    entry!(0x020D, 4, 4), // GW_SET_NODE_ORDER_AND_PLACEMENT_REQ
+    entry!(0x020E, 2, 2), // GW_SET_NODE_ORDER_AND_PLACEMENT_CFM
+    entry!(0x0210, 124, 124), // GW_GET_NODE_INFORMATION_NTF
+    entry!(0x0211, 20, 20), // GW_NODE_STATE_POSITION_CHANGED_NTF
+    entry!(0x0220, 1, 1), // GW_GET_GROUP_INFORMATION_REQ
+    entry!(0x0221, 2, 2), // GW_GET_GROUP_INFORMATION_CFM
+    entry!(0x0222, 99, 99), // GW_SET_GROUP_INFORMATION_REQ
+    entry!(0x0223, 2, 2), // GW_SET_GROUP_INFORMATION_CFM
+    entry!(0x0224, 2, 100), // GW_GROUP_INFORMATION_CHANGED_NTF
+    entry!(0x0225, 1, 1), // GW_DELETE_GROUP_REQ
+    entry!(0x0226, 2, 2), // GW_DELETE_GROUP_CFM
+    entry!(0x0227, 96, 96), // GW_NEW_GROUP_REQ
+    entry!(0x0228, 2, 2), // GW_NEW_GROUP_CFM
+    entry!(0x0229, 2, 2), // GW_GET_ALL_GROUPS_INFORMATION_REQ
+    entry!(0x022A, 2, 2), // GW_GET_ALL_GROUPS_INFORMATION_CFM
+    entry!(0x022B, 99, 99), // GW_GET_ALL_GROUPS_INFORMATION_NTF
+    entry!(0x022C, 0, 0), // GW_GET_ALL_GROUPS_INFORMATION_FINISHED_NTF
+    entry!(0x022D, 1, 1), // GW_GROUP_DELETED_NTF
+    entry!(0x0230, 99, 99), // GW_GET_GROUP_INFORMATION_NTF
+    entry!(0x0240, 0, 0), // GW_HOUSE_STATUS_MONITOR_ENABLE_REQ
+    entry!(0x0241, 0, 0), // GW_HOUSE_STATUS_MONITOR_ENABLE_CFM
+    entry!(0x0242, 0, 0), // GW_HOUSE_STATUS_MONITOR_DISABLE_REQ
+    entry!(0x0243, 0, 0), // GW_HOUSE_STATUS_MONITOR_DISABLE_CFM
+    entry!(0x0300, 66, 66), // GW_COMMAND_SEND_REQ
+    entry!(0x0301, 3, 3), // GW_COMMAND_SEND_CFM
+    entry!(0x0302, 13, 13), // GW_COMMAND_RUN_STATUS_NTF
+    entry!(0x0303, 6, 6), // GW_COMMAND_REMAINING_TIME_NTF
+    entry!(0x0304, 2, 2), // GW_SESSION_FINISHED_NTF
+    entry!(0x0305, 26, 26), // GW_STATUS_REQUEST_REQ
+    entry!(0x0306, 3, 3), // GW_STATUS_REQUEST_CFM
+    entry!(0x0307, 18, 59), // GW_STATUS_REQUEST_NTF
+    entry!(0x0308, 27, 27), // GW_WINK_SEND_REQ
+    entry!(0x0309, 3, 3), // GW_WINK_SEND_CFM
+    entry!(0x030A, 2, 2), // GW_WINK_SEND_NTF
+    entry!(0x0310, 31, 31), // GW_SET_LIMITATION_REQ
+    entry!(0x0311, 3, 3), // GW_SET_LIMITATION_CFM
+    entry!(0x0312, 25, 25), // GW_GET_LIMITATION_STATUS_REQ
+    entry!(0x0313, 3, 3), // GW_GET_LIMITATION_STATUS_CFM
+    entry!(0x0314, 10, 10), // GW_LIMITATION_STATUS_NTF
+    entry!(0x0320, 31, 31), // GW_MODE_SEND_REQ
+    entry!(0x0321, 3, 3), // GW_MODE_SEND_CFM
+    entry!(0x0322, 0, 250), // GW_MODE_SEND_NTF
+    entry!(0x0400, 0, 0), // GW_INITIALIZE_SCENE_REQ
+    entry!(0x0401, 1, 1), // GW_INITIALIZE_SCENE_CFM
+    entry!(0x0402, 26, 26), // GW_INITIALIZE_SCENE_NTF
+    entry!(0x0403, 0, 0), // GW_INITIALIZE_SCENE_CANCEL_REQ
+    entry!(0x0404, 1, 1), // GW_INITIALIZE_SCENE_CANCEL_CFM
+    entry!(0x0405, 64, 64), // GW_RECORD_SCENE_REQ
+    entry!(0x0406, 1, 1), // GW_RECORD_SCENE_CFM
+    entry!(0x0407, 2, 2), // GW_RECORD_SCENE_NTF
+    entry!(0x0408, 1, 1), // GW_DELETE_SCENE_REQ
+    entry!(0x0409, 2, 2), // GW_DELETE_SCENE_CFM
+    entry!(0x040A, 65, 65), // GW_RENAME_SCENE_REQ
+    entry!(0x040B, 2, 2), // GW_RENAME_SCENE_CFM
+    entry!(0x040C, 0, 0), // GW_GET_SCENE_LIST_REQ
+    entry!(0x040D, 1, 1), // GW_GET_SCENE_LIST_CFM
+    entry!(0x040E, 2, 197), // GW_GET_SCENE_LIST_NTF
+    entry!(0x040F, 1, 1), // GW_GET_SCENE_INFOAMATION_REQ
+    entry!(0x0410, 2, 2), // GW_GET_SCENE_INFOAMATION_CFM
+    entry!(0x0411, 71, 247), // GW_GET_SCENE_INFOAMATION_NTF
+    entry!(0x0412, 6, 6), // GW_ACTIVATE_SCENE_REQ
+    entry!(0x0413, 3, 3), // GW_ACTIVATE_SCENE_CFM
+    entry!(0x0415, 5, 5), // GW_STOP_SCENE_REQ
+    entry!(0x0416, 3, 3), // GW_STOP_SCENE_CFM
+    entry!(0x0419, 2, 2), // GW_SCENE_INFORMATION_CHANGED_NTF
+    entry!(0x0447, 13, 13), // GW_ACTIVATE_PRODUCTGROUP_REQ
+    entry!(0x0448, 3, 3), // GW_ACTIVATE_PRODUCTGROUP_CFM
+    entry!(0x0449, 0, 250), // GW_ACTIVATE_PRODUCTGROUP_NTF
+    entry!(0x0460, 0, 0), // GW_GET_CONTACT_INPUT_LINK_LIST_REQ
+    entry!(0x0461, 161, 171), // GW_GET_CONTACT_INPUT_LINK_LIST_CFM
+    entry!(0x0462, 17, 17), // GW_SET_CONTACT_INPUT_LINK_REQ
+    entry!(0x0463, 2, 2), // GW_SET_CONTACT_INPUT_LINK_CFM
+    entry!(0x0464, 1, 1), // GW_REMOVE_CONTACT_INPUT_LINK_REQ
+    entry!(0x0465, 2, 2), // GW_REMOVE_CONTACT_INPUT_LINK_CFM
+    entry!(0x0500, 0, 0), // GW_GET_ACTIVATION_LOG_HEADER_REQ
+    entry!(0x0501, 4, 4), // GW_GET_ACTIVATION_LOG_HEADER_CFM
+    entry!(0x0502, 0, 0), // GW_CLEAR_ACTIVATION_LOG_REQ
+    entry!(0x0503, 0, 0), // GW_CLEAR_ACTIVATION_LOG_CFM
+    entry!(0x0504, 2, 2), // GW_GET_ACTIVATION_LOG_LINE_REQ
+    entry!(0x0505, 17, 17), // GW_GET_ACTIVATION_LOG_LINE_CFM
+    entry!(0x0506, 0, 0), // GW_ACTIVATION_LOG_UPDATED_NTF
+    entry!(0x0507, 4, 4), // GW_GET_MULTIPLE_ACTIVATION_LOG_LINES_REQ
+    entry!(0x0508, 17, 17), // GW_GET_MULTIPLE_ACTIVATION_LOG_LINES_NTF
+    entry!(0x0509, 3, 3), // GW_GET_MULTIPLE_ACTIVATION_LOG_LINES_CFM
+    entry!(0x2000, 4, 4), // GW_SET_UTC_REQ
+    entry!(0x2001, 0, 0), // GW_SET_UTC_CFM
+    entry!(0x2002, 64, 64), // GW_RTC_SET_TIME_ZONE_REQ
+    entry!(0x2003, 1, 1), // GW_RTC_SET_TIME_ZONE_CFM
+    entry!(0x2004, 0, 0), // GW_GET_LOCAL_TIME_REQ
+    entry!(0x2005, 15, 15), // GW_GET_LOCAL_TIME_CFM
+    entry!(0x3000, 32, 32), // GW_PASSWORD_ENTER_REQ
+    entry!(0x3001, 1, 1), // GW_PASSWORD_ENTER_CFM
+    entry!(0x3002, 64, 64), // GW_PASSWORD_CHANGE_REQ
+    entry!(0x3003, 1, 1), // GW_PASSWORD_CHANGE_CFM
+    entry!(0x3004, 32, 32), // GW_PASSWORD_CHANGE_NTF
 ];

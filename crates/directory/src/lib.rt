@@ -17,17 +17,9 @@ pub struct Entry {
     pub greatest: u8,
 }
 
-// An entry, where there is one.
-#[derive(Clone, Copy)]
-pub enum Found {
-    Listed(Entry),
-    Nothing,
-}
-
-// What is to be said of a command with so many data bytes: error 1, error 2, or none.
-#[derive(Clone, Copy)]
-pub enum Verdict {
+// Why data may not come under a command: error 1 or error 2 of the error frame.
+#[derive(Clone, Copy, PartialEq, Eq, Debug)]
+pub enum CommandError {
     Unknown,
     WrongLength,
-    Fits,
 }

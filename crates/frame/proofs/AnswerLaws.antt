@@ -8,17 +8,18 @@ use Rattle.line.specs.declared.Fault.TheVariants.{WrongEscape, TooLong}
 use Rattle.line.specs.declared.Reading.{Reading}
 use Rattle.line.specs.declared.FaultAt.{FaultAt}
 use Rattle.line.specs.Reader as line
-use Rattle.frame.specs.declared.FrameAnswer.{FrameAnswer}
-use Rattle.frame.specs.declared.FrameAt.{FrameAt}
+use Rattle.line.specs.declared.Answer.{Answer}
+use Rattle.line.specs.declared.AnswerAt.{AnswerAt}
+use Rattle.line.specs.declared.Told.{Told}
+use Rattle.frame.specs.declared.FrameOutcome.{FrameOutcome}
 use Rattle.frame.specs.declared.FrameOutcome.TheVariants as given
-use Rattle.frame.specs.declared.FrameTold.{FrameTold}
 use Rattle.frame.specs.declared.view.View.{View}
 use Rattle.frame.specs.Frame.{number, refusal, Outcome, frame, refused, head, around, judge}
 use Rattle.frame.proofs.JudgeLaws.{judge-accepted, judge-frame, refused_number, numbered-some, framed-accepted}
 use Rattle.frame.specs.Reader.{State, Scan, taken_as, taken, read}
 use Rattle.frame.specs.Answers.{told, seen, Answers, answer_of, Within, Whole}
 use Rattle.frame.specs.Judgements.{cause_of, refusal_of}
-use Rattle.frame.specs.Lent.{frame_told, ReadsFrame}
+use Rattle.frame.specs.Lent.{told_of, ReadsFrame}
 use Rattle.frame.specs.View.{shown_data, shown_start, Part, Shows, outcome_in}
 
 -- a fault of the line reader is told as the line reader tells it
@@ -30,12 +31,12 @@ pub fault_refusal : (f : FaultAt) → refusal (refusal_of f) ≡ line.refusal f
 fault_refusal f = ap (λ (n : ℕ). record { number = n; at = f.at }) (cause_number f.fault)
 
 -- bytes that lie apart from an answer tell its frame and its state
-pub apart_seen : (bs : List ℕ) (t : FrameAt)
+pub apart_seen : (bs : List ℕ) (t : AnswerAt FrameOutcome)
     → seen (answer_of bs t) ≡ record { used = t.used; outcome = told t.outcome bs; after = taken_as bs t.cursor.count t.cursor.mode }
 apart_seen bs t = refl
 
 -- a call by value whose record is put back is a call on the lent record
-pub frame-lent : (s : Reading) (w : List ℕ) (a : FrameAnswer) → Answers (read (taken s) w) a → ReadsFrame s w (frame_told a) a.reading
+pub frame-lent : (s : Reading) (w : List ℕ) (a : Answer FrameOutcome) → Answers (read (taken s) w) a → ReadsFrame s w (told_of a) a.reading
 frame-lent s w a x = x
 
 -- the data shown of a packet are its bytes from where they begin on
@@ -69,7 +70,7 @@ whole-judged c n bs h w = ap judge w ∙ framed-accepted c (take n (drop head bs
 
 -- What reading accepts can be viewed: where a call on a lent record tells a frame, the view of the packet at the array's front
 -- shows that frame, and tells the outcome of the bytes read.
-pub reading_shown : (s : Reading) (w : List ℕ) (t : FrameTold) (e : Reading) → ReadsFrame s w t e → (c n : ℕ) → t.outcome ≡ given.Frame c n
+pub reading_shown : (s : Reading) (w : List ℕ) (t : Told FrameOutcome) (e : Reading) → ReadsFrame s w t e → (c n : ℕ) → t.outcome ≡ given.Frame c n
     → (x : Bor (List ℕ)) (v : View) → x.now ≡ take (n + around) e.bytes → Shows (judge x.now) x v
     → Shows (frame c (take n (drop head e.bytes))) x v × ((read (taken s) w).outcome ≡ some (outcome_in v))
 reading_shown s w t e a c n p x v q h =

@@ -1,33 +1,33 @@
 -- What judging and reading promise.
-use Rattle.std.specs.Prelude.{ℕ, ◌+◌, ◌≤◌, ◌≡◌, List, length, take, drop}
+use Rattle.std.specs.Prelude.{ℕ, ◌+◌, ◌≤◌, ◌≡◌, List, Result, Ok, Err, length, take, drop}
 use Rattle.std.proofs.Math.Option.{Option, none, some}
 use Rattle.line.specs.Reader.{limit}
 use Rattle.line.specs.Answers.{Clear}
-use Rattle.frame.specs.declared.Judged.{Judged}
-use Rattle.frame.specs.declared.Judged.TheVariants as judged
+pub use Rattle.line.specs.Answers.{answer_of}
+use Rattle.frame.specs.declared.AcceptedFrame.{AcceptedFrame}
+use Rattle.frame.specs.declared.PacketRefusal.{PacketRefusal}
 use Rattle.frame.specs.declared.FrameOutcome.{FrameOutcome as Given}
 use Rattle.frame.specs.declared.FrameOutcome.TheVariants as given
-use Rattle.frame.specs.declared.FrameAnswer.{FrameAnswer}
-use Rattle.frame.specs.declared.FrameAt.{FrameAt}
+use Rattle.line.specs.declared.Answer.{Answer}
 use Rattle.frame.specs.Frame.{Outcome, frame, refused, refusal, max_data, head, around, framed}
 use Rattle.frame.specs.Reader.{Scan, State, taken}
 
 -- what a judgement of the bytes h tells: a frame's data are a part of h
-abbrev pub judged_as : List ℕ → Judged → Outcome
-judged_as h (judged.Frame c s n) = frame c (take n (drop s h))
-judged_as h (judged.Refused r) = refused (refusal r)
+abbrev pub judged_as : List ℕ → Result AcceptedFrame PacketRefusal → Outcome
+judged_as h (Ok f) = frame f.command (take f.len (drop f.start h))
+judged_as h (Err r) = refused (refusal r)
 
 -- they begin behind the frame's head and end before its check byte
-abbrev pub JudgedWithin : List ℕ → Judged → Type 0
-JudgedWithin h (judged.Frame c s n) = (s ≡ head) × (n + around ≡ length h) × (n ≤ max_data)
-JudgedWithin h (judged.Refused r) = Unit {0}
+abbrev pub JudgedWithin : List ℕ → Result AcceptedFrame PacketRefusal → Type 0
+JudgedWithin h (Ok f) = (f.start ≡ head) × (f.len + around ≡ length h) × (f.len ≤ max_data)
+JudgedWithin h (Err r) = Unit {0}
 
 -- the packet is the frame that is made of command and data, protocol byte to check byte
-abbrev pub JudgedWhole : List ℕ → Judged → Type 0
-JudgedWhole h (judged.Frame c s n) = h ≡ framed c (take n (drop s h))
-JudgedWhole h (judged.Refused r) = Unit {0}
+abbrev pub JudgedWhole : List ℕ → Result AcceptedFrame PacketRefusal → Type 0
+JudgedWhole h (Ok f) = h ≡ framed f.command (take f.len (drop f.start h))
+JudgedWhole h (Err r) = Unit {0}
 
-pub record Judges (x : Outcome) (h : List ℕ) (r : Judged) : Type 0 where
+pub record Judges (x : Outcome) (h : List ℕ) (r : Result AcceptedFrame PacketRefusal) : Type 0 where
   pub told : judged_as h r ≡ x
   pub within : JudgedWithin h r
   pub whole : JudgedWhole h r
@@ -38,7 +38,7 @@ told given.Nothing bs = none
 told (given.Frame c n) bs = some (frame c (take n (drop head bs)))
 told (given.Refused r) bs = some (refused (refusal r))
 
-abbrev pub seen : FrameAnswer → Scan State Outcome
+abbrev pub seen : Answer Given → Scan State Outcome
 seen r = record { used = r.used; outcome = told r.outcome r.reading.bytes; after = taken r.reading }
 
 -- a frame's data lie within the array
@@ -55,14 +55,10 @@ Whole (given.Refused r) bs = Unit {0}
 
 -- The promise of a call: r tells what the definition x gives, and each count in it lies within the array.
 -- Left to the program: the array's places beyond the bytes held and, where a frame is told, beyond its packet; it stays 255 long.
-pub record Answers (x : Scan State Outcome) (r : FrameAnswer) : Type 0 where
+pub record Answers (x : Scan State Outcome) (r : Answer Given) : Type 0 where
   pub told : seen r ≡ x
   pub data_within : Within r.outcome
   pub packet : Whole r.outcome r.reading.bytes
   pub count_within : r.reading.count ≤ limit
   pub clear : Clear r.reading.mode r.reading.count
   pub full : length r.reading.bytes ≡ limit
-
--- the answer with the bytes that it lies apart from
-abbrev pub answer_of : List ℕ → FrameAt → FrameAnswer
-answer_of bs t = record { used = t.used; outcome = t.outcome; reading = record { bytes = bs; count = t.cursor.count; mode = t.cursor.mode } }

@@ -1,12 +1,14 @@
 -- Laws of the wire form.
-use Rattle.std.specs.Prelude.{ℕ, ◌+◌, ◌*◌, ◌/◌, ◌%◌, ◌≤◌, ◌≡◌, refl, List, [], ◌∷◌, ◌++◌, Bool, true, false, cond, length, take, drop, ltb}
+use Rattle.std.specs.Prelude.{ℕ, ◌+◌, ◌*◌, ◌/◌, ◌%◌, ◌<◌, ◌≤◌, ◌^◌, ◌≡◌, refl, List, [], ◌∷◌, ◌++◌, Result, Ok, Err, Bool, true, false, cond, length, take, drop, ltb}
 use Rattle.std.proofs.Common.{sym, ap, ◌∙◌, append_assoc, zero-add, arith, length-append, ltb-false}
 use Rattle.line.specs.Wire.{END, escape}
 use Rattle.line.specs.WireLaws.{escape_append, escape_short}
 use Rattle.frame.specs.Xor.{◌⊕◌, xor_all}
 use Rattle.frame.specs.XorLaws.{⊕-assoc, ⊕-zero, zero-⊕, xor_all_append}
 use Rattle.frame.specs.Frame.{max_data, head_of, body, framed, wire}
-use Rattle.frame.specs.Writer.{room_for_any, short_room, long_data, Writing, up_to, refused, no_fit, Wire, write, write_at, measured, check}
+use Rattle.frame.specs.declared.WriteRefusal.{WriteRefusal}
+use Rattle.frame.specs.declared.WriteRefusal.TheVariants.{ShortRoom, LongData}
+use Rattle.frame.specs.Writer.{told, told_at, room_for_any, short_room, long_data, Writing, up_to, refused, no_fit, Wire, write, write_at, measured, check}
 
 -- ---- the parts
 
@@ -152,3 +154,13 @@ write-placed room c d = rw zero-add (go (ltb max_data (length d)) (ltb (length r
     go true b = refl
     go false true = refl
     go false false = refl
+
+-- the code's answers tell the same, but for that number
+pub told-numbered : (r : Result ℕ WriteRefusal) → told r ≡ numbered (told_at r)
+told-numbered (Ok n) = refl
+told-numbered (Err ShortRoom) = refl
+told-numbered (Err LongData) = refl
+
+-- a command's high byte is below 256
+pub high_byte : (c : ℕ) → c < 2 ^ 16 → c / 256 % 256 ≡ c / 256
+high_byte c h = omega arith

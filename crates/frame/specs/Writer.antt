@@ -1,11 +1,8 @@
 -- What writing promises.
-use Rattle.std.specs.Prelude.{ℕ, ◌+◌, ◌≡◌, List, ◌++◌, cond, length, take, drop, ltb}
-use Rattle.frame.specs.declared.Written.{Written}
-use Rattle.frame.specs.declared.Written.TheVariants as written
-use Rattle.frame.specs.declared.WrittenAt.{WrittenAt}
-use Rattle.frame.specs.declared.WrittenAt.TheVariants as at
-use Rattle.frame.specs.declared.Measured.{Measured}
-use Rattle.frame.specs.declared.Measured.TheVariants as measured_as
+use Rattle.std.specs.Prelude.{ℕ, ◌+◌, ◌≡◌, List, ◌++◌, Result, Ok, Err, cond, length, take, drop, ltb}
+use Rattle.frame.specs.declared.LongData.{LongData}
+use Rattle.frame.specs.declared.WriteRefusal.{WriteRefusal}
+use Rattle.frame.specs.declared.WriteRefusal.TheVariants as refusal
 use Rattle.frame.specs.Xor.{◌⊕◌, xor_all}
 use Rattle.frame.specs.Frame.{head_of, wire, max_data}
 
@@ -28,19 +25,19 @@ pub data Writing : Type 0 where
   no_fit : Writing
 
 -- what the code's answers tell
-abbrev pub told : Written → Writing
-told (written.Length n) = up_to n
-told written.ShortRoom = refused short_room
-told written.LongData = refused long_data
+abbrev pub told : Result ℕ WriteRefusal → Writing
+told (Ok n) = up_to n
+told (Err refusal.ShortRoom) = refused short_room
+told (Err refusal.LongData) = refused long_data
 
-abbrev pub told_at : WrittenAt → Writing
-told_at (at.UpTo n) = up_to n
-told_at at.NoFit = no_fit
-told_at at.LongData = refused long_data
+abbrev pub told_at : Result ℕ WriteRefusal → Writing
+told_at (Ok n) = up_to n
+told_at (Err refusal.ShortRoom) = no_fit
+told_at (Err refusal.LongData) = refused long_data
 
-abbrev pub told_length : Measured → Writing
-told_length (measured_as.Length n) = up_to n
-told_length measured_as.LongData = refused long_data
+abbrev pub told_length : Result ℕ LongData → Writing
+told_length (Ok n) = up_to n
+told_length (Err e) = refused long_data
 
 -- what a call that writes comes to, and the room that it leaves
 pub record Wire : Type 0 where
@@ -70,6 +67,6 @@ pub record Writes (x : Wire) (r : Writing) (l : List ℕ) : Type 0 where
   pub answer : r ≡ x.answer
   pub room : l ≡ x.room
 
--- `check_of`: the check byte, from the head's and the data's
+-- the check byte, from the head's and the data's
 abbrev pub check : ℕ → List ℕ → ℕ
 check c d = xor_all (head_of c (length d)) ⊕ xor_all d

@@ -12,7 +12,7 @@ mod writer;
 
 pub use checks::{judge, number};
 pub use lent::read_frame;
-use line::{Cursor, Places, Reading};
+use line::Places;
 pub use line::{END, ESC, LIMIT, taken_cursor};
 pub use reader::{emptied, read, read_in};
 pub use view::{View, broken_at, command, data, refusal, show};
@@ -47,19 +47,17 @@ pub struct PacketRefusal {
     pub at: Places,
 }
 
-// A packet that was judged: its data are `len` bytes from `start` on.
+// A packet that is a frame: its data are `len` bytes of it from `start` on.
 #[derive(Clone, Copy)]
-pub enum Judged {
-    Frame {
-        command: u16,
-        start: usize,
-        len: usize,
-    },
-    Refused(PacketRefusal),
+pub struct AcceptedFrame {
+    pub command: u16,
+    pub start: usize,
+    pub len: usize,
 }
 
 // What wire bytes came to. A frame's data are `len` bytes of the reading's `bytes` from `HEAD` on; its whole packet is the first
 // `len + AROUND` of them.
+// Stays: three cases; as an Option of a Result each match on it would have two layers, no plainer.
 #[derive(Clone, Copy)]
 pub enum FrameOutcome {
     Nothing,
@@ -67,47 +65,14 @@ pub enum FrameOutcome {
     Refused(PacketRefusal),
 }
 
-#[derive(Clone, Copy)]
-pub struct FrameAnswer {
-    pub used: usize,
-    pub outcome: FrameOutcome,
-    pub reading: Reading,
-}
-
-// An answer apart from its bytes.
-#[derive(Clone, Copy)]
-pub struct FrameAt {
-    pub used: usize,
-    pub outcome: FrameOutcome,
-    pub cursor: Cursor,
-}
-
-// An answer apart from its reading, which lies where it was lent.
-#[derive(Clone, Copy)]
-pub struct FrameTold {
-    pub used: usize,
-    pub outcome: FrameOutcome,
-}
-
-// What writing into room came to: the wire form's length, or the call's refusal.
-#[derive(Clone, Copy)]
-pub enum Written {
-    Length(usize),
+// Why a frame is not written: the room, behind the place where it would begin, is shorter than its wire form, or the data are longer than `DATA`.
+// Of `write` short room is document 01's refusal 9; of `write_at` it has no number there (specs/Writer.antt: told, told_at, no_fit).
+#[derive(Clone, Copy, PartialEq, Eq, Debug)]
+pub enum WriteRefusal {
     ShortRoom,
     LongData,
 }
 
-// What writing at an offset came to: the place behind the wire form, or why nothing was written.
-#[derive(Clone, Copy)]
-pub enum WrittenAt {
-    UpTo(usize),
-    NoFit,
-    LongData,
-}
-
-// How much room a frame takes: the wire form's length, or the refusal of its data.
-#[derive(Clone, Copy)]
-pub enum Measured {
-    Length(usize),
-    LongData,
-}
+// Data longer than `DATA`, of which there is no frame.
+#[derive(Clone, Copy, PartialEq, Eq, Debug)]
+pub struct LongData;

@@ -7,8 +7,8 @@ ghost use Rattle.frame.specs.Reader.{read, taken, taken_as, emptied_reading};
 ghost use Rattle.frame.specs.Answers.{answer_of, Answers};
 ghost use Rattle.frame.specs.Judgements.{Judging, outcome_of, cause_of, refusal_of};
 
-use crate::{Cause, FrameAnswer, FrameAt, FrameOutcome, Judged, PacketRefusal};
-use line::{Cursor, Fault, FaultAt, Reading};
+use crate::{AcceptedFrame, Cause, FrameOutcome, PacketRefusal};
+use line::{Answer, AnswerAt, Cursor, Fault, FaultAt, PacketOutcome, Reading};
 
 // A reading between packets.
 pub fn emptied() -> Reading
@@ -18,88 +18,76 @@ pub fn emptied() -> Reading
 }
 
 // Reads to the end of the first outcome or of the bytes.
-pub fn read(reading: Reading, wire: &[u8]) -> FrameAnswer
+pub fn read(reading: Reading, wire: &[u8]) -> Answer<FrameOutcome>
     ensures { Answers (read (taken reading) wire.now) result }
 {
-    let mut bytes = reading.bytes;
-    let count = reading.count;
-    let mode = reading.mode;
+    let Reading {
+        mut bytes,
+        count,
+        mode,
+    } = reading;
     let told = read_in(&mut bytes, Cursor { count, mode }, wire);
-    answer_of(bytes, told)
+    told.with_bytes(bytes)
 }
 
 // The same on a reading whose bytes stay where they lie: nothing is copied.
-pub fn read_in(bytes: &mut [u8; line::LIMIT], cursor: Cursor, wire: &[u8]) -> FrameAt
+pub fn read_in(bytes: &mut [u8; line::LIMIT], cursor: Cursor, wire: &[u8]) -> AnswerAt<FrameOutcome>
     ensures { Answers (read (taken_as bytes.old cursor.count cursor.mode) wire.now) (answer_of bytes.new result) }
 {
     let told = line::read_in(bytes, cursor, wire);
-    let used = told.used;
-    let got = told.outcome;
-    let after = told.cursor;
-    let outcome = judge_in(bytes, got);
-    FrameAt {
-        used: used,
-        outcome: outcome,
-        cursor: after,
-    }
-}
-
-// An answer with its bytes.
-fn answer_of(bytes: [u8; line::LIMIT], told: FrameAt) -> FrameAnswer
-    ensures { result ≡ answer_of bytes told }
-{
-    let used = told.used;
-    let outcome = told.outcome;
-    let cursor = told.cursor;
-    let count = cursor.count;
-    let mode = cursor.mode;
-    FrameAnswer {
-        used: used,
-        outcome: outcome,
-        reading: Reading { bytes, count, mode },
+    AnswerAt {
+        used: told.used,
+        outcome: judge_in(bytes, told.outcome),
+        cursor: told.cursor,
     }
 }
 
 // A packet that lies at the front of a reading's bytes is judged there.
-fn judge_in(bytes: &[u8], got: line::PacketOutcome) -> FrameOutcome
+fn judge_in(bytes: &[u8], got: PacketOutcome) -> FrameOutcome
     requires { (length bytes.now ≡ limit) × Within got }
     ensures { Judging bytes.now got result }
 {
     match got {
-        line::PacketOutcome::Nothing => FrameOutcome::Nothing,
-        line::PacketOutcome::Packet(n) => outcome_of(crate::checks::judge(&bytes[0..n])),
-        line::PacketOutcome::Refused(fault) => FrameOutcome::Refused(refusal_of(fault)),
+        PacketOutcome::Nothing => FrameOutcome::Nothing,
+        PacketOutcome::Packet(n) => crate::checks::judge(&bytes[..n]).into(),
+        PacketOutcome::Refused(fault) => FrameOutcome::Refused(fault.into()),
     }
 }
 
-fn outcome_of(judged: Judged) -> FrameOutcome
-    ensures { result ≡ outcome_of judged }
-{
-    match judged {
-        Judged::Frame {
-            command,
-            start: _,
-            len,
-        } => FrameOutcome::Frame { command, len },
-        Judged::Refused(refusal) => FrameOutcome::Refused(refusal),
+// A packet's judgement, as an outcome.
+impl From<Result<AcceptedFrame, PacketRefusal>> for FrameOutcome {
+    ghost from_gives = { λ judged outcome. outcome ≡ outcome_of judged };
+
+    fn from(judged: Result<AcceptedFrame, PacketRefusal>) -> FrameOutcome {
+        match judged {
+            Ok(frame) => FrameOutcome::Frame {
+                command: frame.command,
+                len: frame.len,
+            },
+            Err(refusal) => FrameOutcome::Refused(refusal),
+        }
     }
 }
 
 // A fault of the line reader, as a packet refusal.
-fn refusal_of(fault: FaultAt) -> PacketRefusal
-    ensures { result ≡ refusal_of fault }
-{
-    let kind = fault.fault;
-    let at = fault.at;
-    let cause = cause_of(kind);
-    PacketRefusal { cause, at }
+impl From<FaultAt> for PacketRefusal {
+    ghost from_gives = { λ fault refusal. refusal ≡ refusal_of fault };
+
+    fn from(fault: FaultAt) -> PacketRefusal {
+        PacketRefusal {
+            cause: Cause::from(fault.fault),
+            at: fault.at,
+        }
+    }
 }
 
-fn cause_of(fault: Fault) -> Cause
-    ensures { result ≡ cause_of fault }
-{
-    match fault {
-        Fault::WrongEscape => Cause::WrongEscape,
-        Fault::TooLong => Cause::TooLong,
+impl From<Fault> for Cause {
+    ghost from_gives = { λ fault cause. cause ≡ cause_of fault };
+
+    fn from(fault: Fault) -> Cause {
+        match fault {
+            Fault::WrongEscape => Cause::WrongEscape,
+            Fault::TooLong => Cause::TooLong,
+        }
     }
 }

@@ -1,14 +1,11 @@
 // The host's calls: the hub before any start, start, enrol, finish a session (document 01, "What the commands do").
 // The hub goes in and out by value; the node table and the reply room are lent.
 ghost use Rattle.std.specs.Prelude.{◌≡◌};
-ghost use Rattle.rules.specs.Hub.{fresh_hub, first_hub, with_slots};
+ghost use Rattle.rules.specs.Hub.{fresh_hub, first_hub};
 ghost use Rattle.rules.specs.Promises.{Starts, Enrols, Finishes};
-ghost use Rattle.hub.specs.Parts.{refused_finish};
 
-use frame::Written;
 use replies::Reply;
-use rules::{CallAnswer, CallRefusal, FinishAnswer, Finished, Hub, Started};
-use sessions::Owner;
+use rules::{Answered, CallRefusal, Hub, Notice};
 
 // The hub before any start.
 pub fn first() -> Hub
@@ -22,99 +19,77 @@ fn fresh(password: [u8; passwords::PASSWORD]) -> Hub
     ensures { result ≡ fresh_hub password }
 {
     Hub {
-        password: password,
+        password,
         logins: [0; rules::LINES],
         slots: [0; sessions::TABLE],
     }
 }
 
 // Starts the hub anew: the password is stored with zeros from its first zero on, the table is zeroed.
-pub fn start(hub: Hub, table: &mut [u8], password: &[u8]) -> Started
+pub fn start(mut hub: Hub, table: &mut [u8], password: &[u8]) -> Answered<()>
     ensures { Starts hub table.old password.now result.answer result.hub table.new }
 {
+    let answer = start_lent(&mut hub, table, password);
+    Answered { answer, hub }
+}
+
+// The same with the hub lent.
+fn start_lent(hub: &mut Hub, table: &mut [u8], password: &[u8]) -> Result<(), CallRefusal>
+    ensures { Starts hub.old table.old password.now result hub.new table.new }
+{
     if table.len() != nodes::TABLE {
-        return Started {
-            answer: CallAnswer::Refused(CallRefusal::WrongTable),
-            hub: hub,
-        };
+        return Err(CallRefusal::WrongTable);
     }
     if password.len() != passwords::PASSWORD {
-        return Started {
-            answer: CallAnswer::Refused(CallRefusal::WrongPassword),
-            hub: hub,
-        };
+        return Err(CallRefusal::WrongPassword);
     }
     nodes::empty(table);
     let mut sent = [0u8; passwords::PASSWORD];
-    memory::copy(&mut sent, 0, password);
+    sent.copy_from_slice(password);
     let kept = passwords::stored(sent);
-    let next = fresh(kept);
-    Started {
-        answer: CallAnswer::Done,
-        hub: next,
-    }
+    *hub = fresh(kept);
+    Ok(())
 }
 
 // A node comes into use, with its type.
-pub fn enrol(table: &mut [u8], node: u8, kind: u16) -> CallAnswer
+pub fn enrol(table: &mut [u8], node: u8, kind: u16) -> Result<(), CallRefusal>
     ensures { Enrols table.old node kind result table.new }
 {
     if table.len() != nodes::TABLE {
-        return CallAnswer::Refused(CallRefusal::WrongTable);
+        return Err(CallRefusal::WrongTable);
     }
-    if nodes::NODES <= node as usize {
-        return CallAnswer::Refused(CallRefusal::WrongNode);
+    if nodes::NODES <= usize::from(node) {
+        return Err(CallRefusal::WrongNode);
     }
-    if nodes::in_use(table, node as usize) {
-        return CallAnswer::Refused(CallRefusal::NodeInUse);
+    if nodes::in_use(table, usize::from(node)) {
+        return Err(CallRefusal::NodeInUse);
     }
     nodes::enrol(table, node, kind);
-    CallAnswer::Done
+    Ok(())
 }
 
 // A session is finished: frame 0304 with its number goes to its line. It is written, if there is room for it; then the session is closed.
-pub fn finish(hub: Hub, session: u16, room: &mut [u8]) -> Finished
+pub fn finish(mut hub: Hub, session: u16, room: &mut [u8]) -> Answered<Notice>
     ensures { Finishes hub session room.old result.answer result.hub room.new }
 {
-    let mut slots = hub.slots;
-    match sessions::line_of(&slots, session) {
-        Owner::NotOpen => refused(hub, CallRefusal::NotOpen),
-        Owner::Line(line) => {
-            let nothing: [u8; 0] = [];
-            match replies::write(room, Reply::SessionFinished(session), &nothing) {
-                Written::Length(len) => {
-                    sessions::finish(&mut slots, session);
-                    let next = with_slots(hub, slots);
-                    Finished {
-                        answer: FinishAnswer::Finished { line, len },
-                        hub: next,
-                    }
+    let answer = finish_lent(&mut hub, session, room);
+    Answered { answer, hub }
+}
+
+// The same with the hub lent.
+fn finish_lent(hub: &mut Hub, session: u16, room: &mut [u8]) -> Result<Notice, CallRefusal>
+    ensures { Finishes hub.old session room.old result hub.new room.new }
+{
+    match sessions::line_of(&hub.slots, session) {
+        None => Err(CallRefusal::NotOpen),
+        Some(line) => {
+            match replies::write(room, Reply::SessionFinished(session), &[]) {
+                Ok(len) => {
+                    sessions::finish(&mut hub.slots, session);
+                    Ok(Notice { line, len })
                 }
-                Written::ShortRoom => refused(hub, CallRefusal::ShortRoom),
-                Written::LongData => refused(hub, CallRefusal::ShortRoom),
+                Err(_) => Err(CallRefusal::ShortRoom),
             }
         }
-    }
-}
-
-fn refused(hub: Hub, refusal: CallRefusal) -> Finished
-    ensures { result ≡ refused_finish hub refusal }
-{
-    Finished {
-        answer: FinishAnswer::Refused(refusal),
-        hub: hub,
-    }
-}
-
-// The hub with other sessions.
-fn with_slots(hub: Hub, slots: [u8; sessions::TABLE]) -> Hub
-    ensures { result ≡ with_slots hub slots }
-{
-    let password = hub.password;
-    let logins = hub.logins;
-    Hub {
-        password: password,
-        logins: logins,
-        slots: slots,
     }
 }

@@ -1,1 +1,2 @@
+pub mod CountingLaws
 pub mod PieceLaws

@@ -4,15 +4,16 @@ use Rattle.std.proofs.Common.{sym, arith, length-take, length-take-le, ltb-false
 use Rattle.line.specs.declared.Mode.{Mode}
 use Rattle.line.specs.declared.Mode.TheVariants.{Plain, Escaped, Skipping}
 use Rattle.line.specs.declared.Reading.{Reading}
-use Rattle.line.specs.declared.PacketAnswer.{PacketAnswer}
-use Rattle.line.specs.declared.PacketAt.{PacketAt}
+use Rattle.line.specs.declared.PacketOutcome.{PacketOutcome}
+use Rattle.line.specs.declared.Answer.{Answer}
+use Rattle.line.specs.declared.AnswerAt.{AnswerAt}
 use Rattle.line.specs.Scan.{final}
 use Rattle.line.specs.Reader.{limit, skipping, emptied, held, step, read}
 use Rattle.line.specs.Reachable.{Reachable, possible, written}
 use Rattle.line.specs.ReachableLaws.{possible-true, possible_test, reachable_written}
 use Rattle.line.specs.Answers.{at, held_as, taken_as, taken, emptied_reading, told, seen, Clear, Answers, answer_of}
 use Rattle.line.specs.Step.{cursor_of}
-use Rattle.line.specs.Lent.{packet_told, ReadsPacket}
+use Rattle.line.specs.Lent.{told_of, ReadsPacket}
 
 -- ---- records
 
@@ -69,10 +70,10 @@ taken-written r = reachable_written (taken r) (taken_reachable r)
 -- ---- an answer in parts
 
 -- bytes that lie apart from an answer tell its packet and its state
-pub apart_seen : (bs : List ℕ) (t : PacketAt)
+pub apart_seen : (bs : List ℕ) (t : AnswerAt PacketOutcome)
     → seen (answer_of bs t) ≡ record { used = t.used; outcome = told t.outcome bs; after = taken_as bs t.cursor.count t.cursor.mode }
 apart_seen bs t = refl
 
 -- a call by value whose record is put back is a call on the lent record
-pub packet_lent : (s : Reading) (w : List ℕ) (a : PacketAnswer) → Answers (read (taken s) w) a → ReadsPacket s w (packet_told a) a.reading
+pub packet_lent : (s : Reading) (w : List ℕ) (a : Answer PacketOutcome) → Answers (read (taken s) w) a → ReadsPacket s w (told_of a) a.reading
 packet_lent s w a x = x

@@ -6,8 +6,8 @@ use Rattle.line.specs.declared.Mode.TheVariants.{Plain, Escaped, Skipping}
 use Rattle.line.specs.declared.Reading.{Reading}
 use Rattle.line.specs.declared.PacketOutcome.{PacketOutcome as Given}
 use Rattle.line.specs.declared.PacketOutcome.TheVariants.{Nothing, Packet, Refused}
-use Rattle.line.specs.declared.PacketAnswer.{PacketAnswer}
-use Rattle.line.specs.declared.PacketAt.{PacketAt}
+use Rattle.line.specs.declared.Answer.{Answer}
+use Rattle.line.specs.declared.AnswerAt.{AnswerAt}
 use Rattle.line.specs.Scan.{Scan, also}
 use Rattle.line.specs.Reader.{limit, refusal, State, plain, escaped, skipping, emptied, Outcome, packet, refused, read}
 use Rattle.line.specs.Reachable.{Possible, possible}
@@ -41,7 +41,7 @@ told Nothing bs = none
 told (Packet n) bs = some (packet (take n bs))
 told (Refused f) bs = some (refused (refusal f))
 
-abbrev pub seen : PacketAnswer → Scan State Outcome
+abbrev pub seen : Answer Given → Scan State Outcome
 seen r = record { used = r.used; outcome = told r.outcome r.reading.bytes; after = taken r.reading }
 
 -- a packet is no longer than the array
@@ -58,20 +58,20 @@ Clear (Skipping f) n = (n ≡ 0) × Possible f
 
 -- The promise of a call: r tells what the definition x gives, and each count in it lies within the array.
 -- Left to the program: the array's places beyond the bytes held and, where a packet is told, beyond the packet's.
-pub record Answers (x : Scan State Outcome) (r : PacketAnswer) : Type 0 where
+pub record Answers (x : Scan State Outcome) (r : Answer Given) : Type 0 where
   pub told : seen r ≡ x
   pub packet_within : Within r.outcome
   pub count_within : r.reading.count ≤ limit
   pub clear : Clear r.reading.mode r.reading.count
 
 -- the answer with the bytes that it lies apart from
-abbrev pub answer_of : List ℕ → PacketAt → PacketAnswer
+abbrev pub answer_of : {O : Type 0} → List ℕ → AnswerAt O → Answer O
 answer_of bs t = record { used = t.used; outcome = t.outcome; reading = record { bytes = bs; count = t.cursor.count; mode = t.cursor.mode } }
 
 -- Calls one after another: each is lent a record that is taken as the one before left it, and some bytes. Told of them
 -- are the bytes used in all, the outcomes and the last record.
 pub data Calls : Reading → List ℕ → List Outcome → Reading → Type 0 where
   done : {s : Reading} → Calls s [] [] s
-  next : {s t e : Reading} {u : List ℕ} {os : List Outcome} (w : List ℕ) (r : PacketAnswer)
+  next : {s t e : Reading} {u : List ℕ} {os : List Outcome} (w : List ℕ) (r : Answer Given)
       → Answers (read (taken s) w) r → taken t ≡ taken r.reading → Calls t u os e
       → Calls s (take r.used w ++ u) (also (told r.outcome r.reading.bytes) os) e

@@ -2,18 +2,19 @@
 use Rattle.std.specs.Prelude.{ℕ, ◌+◌, ◌-◌, ◌≤◌, ◌<◌, ◌≡◌, refl, List, [], ◌++◌, length, take, drop}
 use Rattle.std.proofs.Common.{sym, ap, ◌∙◌, arith, length-take, length-drop}
 use Rattle.line.specs.declared.Reading.{Reading}
-use Rattle.line.specs.declared.PacketAnswer.{PacketAnswer}
+use Rattle.line.specs.declared.PacketOutcome.{PacketOutcome}
+use Rattle.line.specs.declared.Answer.{Answer}
 use Rattle.line.specs.Scan.{also, Scan, outcomes, final}
 use Rattle.line.specs.ScanLaws.{also_append, outcomes_append, final_append, Tells, scan-tells, used_within, used-some}
 use Rattle.line.specs.Reader.{State, Outcome, step, read}
 use Rattle.line.specs.Answers.{taken, told, seen, Answers, Calls, done, next}
 
 -- an answer tells what the bytes that it used give
-pub answer_tells : (s : Reading) (w : List ℕ) (r : PacketAnswer) → Answers (read (taken s) w) r → Tells step (taken s) w (seen r)
+pub answer_tells : (s : Reading) (w : List ℕ) (r : Answer PacketOutcome) → Answers (read (taken s) w) r → Tells step (taken s) w (seen r)
 answer_tells s w r a = rw a.told (scan-tells step (taken s) w)
 
 -- a call on the bytes w from n on uses at least one, and no more than there are
-pub answer_rest : (s : State) (w : List ℕ) (n : ℕ) (r : PacketAnswer) → n < length w → Answers (read s (take (length w - n) (drop n w))) r
+pub answer_rest : (s : State) (w : List ℕ) (n : ℕ) (r : Answer PacketOutcome) → n < length w → Answers (read s (take (length w - n) (drop n w))) r
     → (0 < r.used) × (n + r.used ≤ length w)
 answer_rest s w n r h a =
     let l : length (take (length w - n) (drop n w)) ≡ length w - n = simp (length-take, length-drop) (omega arith) in

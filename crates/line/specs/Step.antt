@@ -1,5 +1,5 @@
 -- What the functions behind the reader answer.
-use Rattle.std.specs.Prelude.{ℕ, ◌+◌, ◌≤◌, ◌<◌, ◌≡◌, List, [], ◌∷◌, ◌++◌, Bool, cond, ◌&&◌, length, take, drop, leb}
+use Rattle.std.specs.Prelude.{ℕ, ◌+◌, ◌*◌, ◌≤◌, ◌<◌, ◌≡◌, List, [], ◌∷◌, ◌++◌, Bool, cond, ◌&&◌, ◌||◌, length, take, drop, leb, eqb}
 use Rattle.std.proofs.Math.Option.{Option, none, some}
 use Rattle.line.specs.declared.Fault.{Fault}
 use Rattle.line.specs.declared.Fault.TheVariants.{WrongEscape, TooLong}
@@ -9,11 +9,12 @@ use Rattle.line.specs.declared.PacketOutcome.{PacketOutcome as Given}
 use Rattle.line.specs.declared.PacketOutcome.TheVariants.{Nothing, Packet, Refused}
 use Rattle.line.specs.declared.Cursor.{Cursor}
 use Rattle.line.specs.declared.Reading.{Reading}
-use Rattle.line.specs.declared.PacketAt.{PacketAt}
+use Rattle.line.specs.declared.AnswerAt.{AnswerAt}
 use Rattle.line.specs.declared.step.Action.{Action}
 use Rattle.line.specs.declared.step.Action.TheVariants.{Store, Keep, Settle, Skip, Refuse, Give}
 use Rattle.line.specs.Scan.{ahead}
-use Rattle.line.specs.Places.{WirePlace, FaultAt}
+use Rattle.line.specs.Wire.{END, ESC}
+use Rattle.line.specs.Places.{WirePlace, DecodedPlace, wire_at, FaultAt}
 use Rattle.line.specs.Reader.{limit, refusal, wrong_escape, too_long, read, State, plain, skipping, emptied, Outcome, refused, decoded, close, step}
 use Rattle.line.specs.Reachable.{possible}
 use Rattle.line.specs.Answers.{at, taken_as, told, Clear}
@@ -35,7 +36,7 @@ pub record SkipsAt (f : FaultAt) (r : Cursor) : Type 0 where
   pub clear : Clear r.mode r.count
 
 -- `told_at`: an answer from its parts
-abbrev pub told_at : ℕ → Given → ℕ → Mode → PacketAt
+abbrev pub told_at : ℕ → Given → ℕ → Mode → AnswerAt Given
 told_at n o k m = record { used = n; outcome = o; cursor = record { count = k; mode = m } }
 
 -- `plain_run`: from the byte i on, k more bytes are read and stored, and the rest is as before
@@ -50,6 +51,15 @@ pub record Runs (m : Mode) (bs : List ℕ) (n : ℕ) (w : List ℕ) (i : ℕ) (c
 pub record Skips (w : List ℕ) (i k : ℕ) : Type 0 where
   pub read : (f : FaultAt) → read (skipping f) (drop i w) ≡ ahead k (read (skipping f) (drop (i + k) w))
   pub within : i + k ≤ length w
+
+-- `is_special`: C0 and DB
+abbrev pub is_special : ℕ → Bool
+is_special b = eqb b END || eqb b ESC
+
+-- `wire_by`: a fault's wire place, by its decoded place, where each byte before it takes n wire bytes
+abbrev pub wire_by : ℕ → Fault → DecodedPlace → WirePlace
+wire_by n WrongEscape d = wire_at (n * d.0 + 1)
+wire_by n TooLong d = wire_at (n * d.0)
 
 -- `is_between`
 abbrev pub between : WirePlace → WirePlace → WirePlace → Bool

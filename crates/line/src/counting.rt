@@ -2,35 +2,32 @@
 ghost use Rattle.std.specs.Prelude.{◌+◌, ◌≤◌, ◌≡◌, [], ◌∷◌, length, take};
 ghost use Rattle.line.specs.Places.{wire_length};
 ghost use Rattle.line.specs.Reader.{limit};
-ghost use Rattle.line.specs.Reachable.{decoded_fits, least_wire, most_wire, possible};
-ghost use Rattle.line.specs.Step.{fault_behind, between};
+ghost use Rattle.line.specs.Reachable.{decoded_fits, possible};
+ghost use Rattle.line.specs.Step.{is_special, wire_by, fault_behind, between};
 
 use crate::{DecodedPlace, END, ESC, Fault, FaultAt, LIMIT, Places, WirePlace};
 
+// Whether a byte is sent escaped.
+pub(crate) fn is_special(b: u8) -> bool
+    ensures { result ≡ is_special b }
+{
+    matches!(b, END | ESC)
+}
+
 // How many wire bytes a decoded byte takes.
+#[tactic(auto, using(crate::proofs::CountingLaws::special_width))]
 pub fn width(b: u8) -> usize
     ensures { result ≡ wire_length (b ∷ []) }
 {
-    if b == END {
-        return 2;
-    }
-    if b == ESC {
-        return 2;
-    }
-    1
+    if is_special(b) { 2 } else { 1 }
 }
 
 // How many ESCs stand in the escaped form of these bytes.
+#[tactic(auto, using(crate::proofs::CountingLaws::special_count))]
 pub fn escapes(bytes: &[u8]) -> usize
     ensures { length bytes.now + result ≡ wire_length bytes.now }
 {
-    let mut n = 0;
-    let mut i = 0;
-    while i < bytes.len() {
-        n += width(bytes[i]) - 1;
-        i += 1;
-    }
-    n
+    bytes.iter().filter(|b| is_special(**b)).count()
 }
 
 // Both places of a byte.
@@ -41,81 +38,66 @@ pub fn places_at(wire: WirePlace, decoded: DecodedPlace) -> Places
 }
 
 // A fault that the next byte meets behind the bytes held, the first `count`.
-pub(crate) fn fault_behind(fault: Fault, bytes: &[u8], count: usize) -> FaultAt
-    requires { (length bytes.now ≡ limit) × (count ≤ limit) }
+pub(crate) fn fault_behind(fault: Fault, bytes: &[u8; LIMIT], count: usize) -> FaultAt
+    requires { count ≤ limit }
     ensures { result ≡ fault_behind fault (take count bytes.now) }
 {
-    let behind = count + escapes(&bytes[0..count]);
-    let wire = behind as u16;
-    let decoded = count as u16;
-    match fault {
-        Fault::WrongEscape => {
-            let next = wire + 1;
-            fault_at(Fault::WrongEscape, WirePlace(next), DecodedPlace(decoded))
-        }
-        Fault::TooLong => fault_at(Fault::TooLong, WirePlace(wire), DecodedPlace(decoded)),
-    }
+    let behind = count + escapes(&bytes[..count]);
+    let wire = match fault {
+        Fault::WrongEscape => behind + 1,
+        Fault::TooLong => behind,
+    };
+    fault_at(fault, WirePlace(wire as u16), DecodedPlace(count as u16))
 }
 
 fn fault_at(fault: Fault, wire: WirePlace, decoded: DecodedPlace) -> FaultAt
     ensures { result ≡ record { fault = fault; at = record { wire = wire; decoded = decoded } } }
 {
-    let at = places_at(wire, decoded);
-    FaultAt { fault, at }
+    FaultAt {
+        fault,
+        at: places_at(wire, decoded),
+    }
 }
 
-// Whether some bytes leave a record that skips for this fault.
+// Whether some bytes leave a record that skips for this fault: its wire place lies between that with none of the bytes before it escaped
+// and that with all.
 pub(crate) fn is_possible(fault: FaultAt) -> bool
     ensures { result ≡ possible fault }
 {
-    let kind = fault.fault;
-    let at = fault.at;
-    let wire = at.wire;
-    let decoded = at.decoded;
-    if !decoded_fits(kind, decoded) {
-        return false;
-    }
-    let least = least_wire(kind, decoded);
-    let most = most_wire(kind, decoded);
-    is_between(wire, least, most)
+    let Places { wire, decoded } = fault.at;
+    decoded_fits(fault.fault, decoded)
+        && is_between(
+            wire,
+            wire_by(1, fault.fault, decoded),
+            wire_by(2, fault.fault, decoded),
+        )
 }
 
 // Whether a fault may have this decoded place.
+#[tactic(auto, unfolding(crate::specs::Reachable::decoded_fits))]
 fn decoded_fits(fault: Fault, decoded: DecodedPlace) -> bool
     ensures { result ≡ decoded_fits fault decoded }
 {
     match fault {
-        Fault::WrongEscape => decoded.0 as usize <= LIMIT,
-        Fault::TooLong => decoded.0 as usize == LIMIT,
+        Fault::WrongEscape => usize::from(decoded.0) <= LIMIT,
+        Fault::TooLong => usize::from(decoded.0) == LIMIT,
     }
 }
 
-// The least and the greatest wire place of a fault, by its decoded place: none of the bytes before it is escaped, or all are.
-fn least_wire(fault: Fault, decoded: DecodedPlace) -> WirePlace
-    requires { decoded.0 ≤ limit }
-    ensures { result ≡ least_wire fault decoded }
+// A fault's wire place, by its decoded place, where each byte before it takes `width` wire bytes.
+fn wire_by(width: u16, fault: Fault, decoded: DecodedPlace) -> WirePlace
+    requires { (width ≤ 2) × (decoded.0 ≤ limit) }
+    ensures { result ≡ wire_by width fault decoded }
 {
+    let before = width * decoded.0;
     match fault {
-        Fault::WrongEscape => WirePlace(decoded.0 + 1),
-        Fault::TooLong => WirePlace(decoded.0),
-    }
-}
-
-fn most_wire(fault: Fault, decoded: DecodedPlace) -> WirePlace
-    requires { decoded.0 ≤ limit }
-    ensures { result ≡ most_wire fault decoded }
-{
-    match fault {
-        Fault::WrongEscape => WirePlace(2 * decoded.0 + 1),
-        Fault::TooLong => WirePlace(2 * decoded.0),
+        Fault::WrongEscape => WirePlace(before + 1),
+        Fault::TooLong => WirePlace(before),
     }
 }
 
 fn is_between(wire: WirePlace, least: WirePlace, most: WirePlace) -> bool
     ensures { result ≡ between wire least most }
 {
-    if wire.0 < least.0 {
-        return false;
-    }
-    wire.0 <= most.0
+    (least.0..=most.0).contains(&wire.0)
 }

@@ -1,31 +1,26 @@
 // Reading on a lent record, which lies as the answer by value says: specs/Lent.antt.
 ghost use Rattle.std.specs.Prelude.{◌≡◌};
-ghost use Rattle.line.specs.Lent.{packet_told, ReadsPacket};
+ghost use Rattle.line.specs.Lent.{told_of, ReadsPacket};
 
-use crate::{PacketTold, Reading};
+use crate::{Answer, PacketOutcome, Reading, Told};
 
 // Reads to the end of the first outcome or of the bytes.
-pub fn read_packet(reading: &mut Reading, wire: &[u8]) -> PacketTold
+pub fn read_packet(reading: &mut Reading, wire: &[u8]) -> Told<PacketOutcome>
     ensures { ReadsPacket reading.old wire.now result reading.new }
 {
-    let packet = crate::reader::read(*reading, wire);
-    *reading = packet_record(packet);
-    packet_told(packet)
+    let answer = crate::reader::read(*reading, wire);
+    *reading = answer.reading;
+    answer.into()
 }
 
-// An answer's two parts.
-fn packet_record(packet: crate::PacketAnswer) -> Reading
-    ensures { result ≡ packet.reading }
-{
-    packet.reading
-}
+// What an answer tells beside its reading.
+impl<O> From<Answer<O>> for Told<O> {
+    ghost from_gives = { λ answer told. told ≡ told_of answer };
 
-fn packet_told(packet: crate::PacketAnswer) -> PacketTold
-    ensures { result ≡ packet_told packet }
-{
-    let outcome = packet.outcome;
-    PacketTold {
-        used: packet.used,
-        outcome: outcome,
+    fn from(answer: Answer<O>) -> Told<O> {
+        Told {
+            used: answer.used,
+            outcome: answer.outcome,
+        }
     }
 }

@@ -78,6 +78,7 @@ pub struct Cursor {
 }
 
 // What the bytes came to. A packet's decoded bytes are the first ones of the reading's `bytes`, as many as it says.
+// Stays: three cases; as an Option of a Result each match on it would have two layers, no plainer.
 #[derive(Clone, Copy)]
 pub enum PacketOutcome {
     Nothing,
@@ -85,24 +86,25 @@ pub enum PacketOutcome {
     Refused(FaultAt),
 }
 
+// What a call of a reader answers: how many bytes it used, what they came to, and the reading that is left.
 #[derive(Clone, Copy)]
-pub struct PacketAnswer {
+pub struct Answer<O> {
     pub used: usize,
-    pub outcome: PacketOutcome,
+    pub outcome: O,
     pub reading: Reading,
 }
 
 // An answer apart from its bytes.
 #[derive(Clone, Copy)]
-pub struct PacketAt {
+pub struct AnswerAt<O> {
     pub used: usize,
-    pub outcome: PacketOutcome,
+    pub outcome: O,
     pub cursor: Cursor,
 }
 
 // An answer apart from its reading, which lies where it was lent.
 #[derive(Clone, Copy)]
-pub struct PacketTold {
+pub struct Told<O> {
     pub used: usize,
-    pub outcome: PacketOutcome,
+    pub outcome: O,
 }

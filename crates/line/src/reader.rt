@@ -1,13 +1,14 @@
 // Reading by value: wire bytes in, one outcome at a time out.
 // The answer is the definition's in bytes used, outcome and state: specs/Reader.antt, specs/Answers.antt.
-ghost use Rattle.std.specs.Prelude.{◌≤◌, ◌≡◌, length};
+ghost use Rattle.std.specs.Prelude.{◌≤◌, ◌≡◌, ◌==◌, length, position};
 ghost use Rattle.line.specs.declared.Mode.TheVariants.{Plain};
 ghost use Rattle.line.specs.Reader.{limit, read};
 ghost use Rattle.line.specs.Answers.{emptied_reading, taken, taken_as, answer_of, Answers};
-ghost use Rattle.line.specs.Step.{told_at, Runs, Skips};
+ghost use Rattle.line.specs.Step.{told_at, is_special, Runs, Skips};
 
-use crate::step::Action;
-use crate::{Cursor, END, ESC, LIMIT, Mode, PacketAnswer, PacketAt, PacketOutcome, Reading};
+use crate::counting::{fault_behind, is_special};
+use crate::step::{Action, decide, taken_at};
+use crate::{Answer, AnswerAt, Cursor, END, LIMIT, Mode, PacketOutcome, Reading};
 
 // A reading between packets.
 pub fn emptied() -> Reading
@@ -21,32 +22,33 @@ pub fn emptied() -> Reading
 }
 
 // Reads to the end of the first outcome or of the bytes.
-pub fn read(reading: Reading, wire: &[u8]) -> PacketAnswer
+pub fn read(reading: Reading, wire: &[u8]) -> Answer<PacketOutcome>
     ensures { Answers (read (taken reading) wire.now) result }
 {
     let mut bytes = reading.bytes;
     let told = read_in(&mut bytes, crate::step::cursor_of(reading), wire);
-    answer_of(bytes, told)
+    told.with_bytes(bytes)
 }
 
 // The same on a reading whose bytes stay where they lie: nothing is copied.
-pub fn read_in(bytes: &mut [u8; LIMIT], cursor: Cursor, wire: &[u8]) -> PacketAt
+pub fn read_in(bytes: &mut [u8; LIMIT], cursor: Cursor, wire: &[u8]) -> AnswerAt<PacketOutcome>
     ensures { Answers (read (taken_as bytes.old cursor.count cursor.mode) wire.now) (answer_of bytes.new result) }
 {
-    let first = crate::step::taken_at(cursor);
-    let mut count = first.count;
-    let mut mode = first.mode;
+    let Cursor {
+        mut count,
+        mut mode,
+    } = taken_at(cursor);
     let mut i = 0;
-    while i < wire.len() {
+    // Stays: `i` is counted, since it moves by runs and is told as the bytes used; byte by byte a skipped one cost 19 instructions, not 5.
+    loop {
         let run = plain_run(mode, bytes, count, wire, i);
         count += run;
         i += run;
-        if wire.len() <= i {
+        let Some(b) = wire.get(i).copied() else {
             return told_at(i, PacketOutcome::Nothing, count, mode);
-        }
-        let b = wire[i];
+        };
         i += 1;
-        match crate::step::decide(mode, count, b) {
+        match decide(mode, count, b) {
             Action::Store(v) => {
                 bytes[count] = v;
                 count += 1;
@@ -56,7 +58,7 @@ pub fn read_in(bytes: &mut [u8; LIMIT], cursor: Cursor, wire: &[u8]) -> PacketAt
                 mode = m;
             }
             Action::Settle(fault) => {
-                mode = Mode::Skipping(crate::counting::fault_behind(fault, bytes, count));
+                mode = Mode::Skipping(fault_behind(fault, bytes, count));
                 count = 0;
                 i += skip_run(wire, i);
             }
@@ -66,7 +68,7 @@ pub fn read_in(bytes: &mut [u8; LIMIT], cursor: Cursor, wire: &[u8]) -> PacketAt
                 i += skip_run(wire, i);
             }
             Action::Refuse(fault) => {
-                let at = crate::counting::fault_behind(fault, bytes, count);
+                let at = fault_behind(fault, bytes, count);
                 return told_at(i, PacketOutcome::Refused(at), 0, Mode::Plain);
             }
             Action::Give(outcome) => {
@@ -74,67 +76,52 @@ pub fn read_in(bytes: &mut [u8; LIMIT], cursor: Cursor, wire: &[u8]) -> PacketAt
             }
         }
     }
-    told_at(i, PacketOutcome::Nothing, count, mode)
 }
 
-// An answer with its bytes.
-fn answer_of(bytes: [u8; LIMIT], told: PacketAt) -> PacketAnswer
-    ensures { result ≡ answer_of bytes told }
-{
-    let used = told.used;
-    let outcome = told.outcome;
-    let cursor = told.cursor;
-    let count = cursor.count;
-    let mode = cursor.mode;
-    PacketAnswer {
-        used: used,
-        outcome: outcome,
-        reading: Reading { bytes, count, mode },
+impl<O> AnswerAt<O> {
+    // The answer with its bytes.
+    pub fn with_bytes(self, bytes: [u8; LIMIT]) -> Answer<O>
+        ensures { result ≡ answer_of bytes self }
+    {
+        let Cursor { count, mode } = self.cursor;
+        Answer {
+            used: self.used,
+            outcome: self.outcome,
+            reading: Reading { bytes, count, mode },
+        }
     }
 }
 
 // An answer from its parts.
-fn told_at(used: usize, outcome: PacketOutcome, count: usize, mode: Mode) -> PacketAt
+fn told_at(used: usize, outcome: PacketOutcome, count: usize, mode: Mode) -> AnswerAt<PacketOutcome>
     ensures { result ≡ told_at used outcome count mode }
 {
-    PacketAt {
-        used: used,
-        outcome: outcome,
+    AnswerAt {
+        used,
+        outcome,
         cursor: Cursor { count, mode },
     }
 }
 
 // Stores the bytes from `at` on that go as they are, in a mode that takes such, and answers how many.
-fn plain_run(mode: Mode, bytes: &mut [u8], count: usize, wire: &[u8], at: usize) -> usize
-    requires { (length bytes.old ≡ limit) × (count ≤ limit) × (at ≤ length wire.now) }
+fn plain_run(mode: Mode, bytes: &mut [u8; LIMIT], count: usize, wire: &[u8], at: usize) -> usize
+    requires { (count ≤ limit) × (at ≤ length wire.now) }
     ensures { Runs mode bytes.old count wire.now at bytes.new result }
 {
     match mode {
         Mode::Plain => copy_run(bytes, count, wire, at),
-        Mode::Escaped => 0,
-        Mode::Skipping(_) => 0,
+        Mode::Escaped | Mode::Skipping(_) => 0,
     }
 }
 
-fn copy_run(bytes: &mut [u8], count: usize, wire: &[u8], at: usize) -> usize
-    requires { (length bytes.old ≡ limit) × (count ≤ limit) × (at ≤ length wire.now) }
+fn copy_run(bytes: &mut [u8; LIMIT], count: usize, wire: &[u8], at: usize) -> usize
+    requires { (count ≤ limit) × (at ≤ length wire.now) }
     ensures { Runs Plain bytes.old count wire.now at bytes.new result }
 {
-    let mut run = 0;
-    while at + run < wire.len() {
-        let b = wire[at + run];
-        if b == END {
-            return run;
-        }
-        if b == ESC {
-            return run;
-        }
-        if LIMIT <= count + run {
-            return run;
-        }
-        bytes[count + run] = b;
-        run += 1;
-    }
+    let most = (LIMIT - count).min(wire.len() - at);
+    let next = &wire[at..at + most];
+    let run = first_special(next).unwrap_or(most);
+    bytes[count..count + run].copy_from_slice(&next[..run]);
     run
 }
 
@@ -143,12 +130,20 @@ fn skip_run(wire: &[u8], at: usize) -> usize
     requires { at ≤ length wire.now }
     ensures { Skips wire.now at result }
 {
-    let mut run = 0;
-    while at + run < wire.len() {
-        if wire[at + run] == END {
-            return run;
-        }
-        run += 1;
-    }
-    run
+    let rest = &wire[at..];
+    first_end(rest).unwrap_or(rest.len())
+}
+
+// The first byte that is sent escaped, and the first END.
+// Stays: two functions; of one that takes the test as a closure the goal what `position` finds stayed open.
+fn first_special(bytes: &[u8]) -> Option<usize>
+    ensures { result ≡ position is_special bytes.now }
+{
+    bytes.iter().position(|b| is_special(*b))
+}
+
+fn first_end(bytes: &[u8]) -> Option<usize>
+    ensures { result ≡ position (λ b. b == END) bytes.now }
+{
+    bytes.iter().position(|b| *b == END)
 }

@@ -3,6 +3,7 @@
 ghost use Rattle.std.specs.Prelude.{◌≡◌};
 ghost use Rattle.line.specs.Step.{cursor_of, Takes, SkipsAt, Acts, stepping, closing, storing};
 
+use crate::counting::is_possible;
 use crate::{
     Cursor, END, ESC, ESC_END, ESC_ESC, Fault, FaultAt, LIMIT, Mode, PacketOutcome, Reading,
 };
@@ -19,6 +20,12 @@ pub(crate) enum Action {
     Give(PacketOutcome),
 }
 
+// Where a reading stands between packets.
+const BETWEEN_PACKETS: Cursor = Cursor {
+    count: 0,
+    mode: Mode::Plain,
+};
+
 // The cursor that a lent record is taken at: what is given back from there claims no more than it holds, and no place that no bytes leave.
 pub fn taken_cursor(reading: Reading) -> Cursor
     ensures { Takes (cursor_of reading) result }
@@ -30,26 +37,21 @@ pub fn taken_cursor(reading: Reading) -> Cursor
 pub(crate) fn cursor_of(reading: Reading) -> Cursor
     ensures { result ≡ cursor_of reading }
 {
-    let count = reading.count;
-    let mode = reading.mode;
-    Cursor { count, mode }
+    Cursor {
+        count: reading.count,
+        mode: reading.mode,
+    }
 }
 
 // The same of a cursor: none claims more bytes than there are, or any while it skips, or skips at places that no bytes leave.
 pub(crate) fn taken_at(cursor: Cursor) -> Cursor
     ensures { Takes cursor result }
 {
-    let mode = cursor.mode;
-    let count = cursor.count;
-    if LIMIT < count {
-        return Cursor {
-            count: 0,
-            mode: Mode::Plain,
-        };
+    if LIMIT < cursor.count {
+        return BETWEEN_PACKETS;
     }
-    match mode {
-        Mode::Plain => cursor,
-        Mode::Escaped => cursor,
+    match cursor.mode {
+        Mode::Plain | Mode::Escaped => cursor,
         Mode::Skipping(fault) => skipping_at(fault),
     }
 }
@@ -58,50 +60,31 @@ pub(crate) fn taken_at(cursor: Cursor) -> Cursor
 fn skipping_at(fault: FaultAt) -> Cursor
     ensures { SkipsAt fault result }
 {
-    if !crate::counting::is_possible(fault) {
-        return Cursor {
+    if is_possible(fault) {
+        Cursor {
             count: 0,
-            mode: Mode::Plain,
-        };
-    }
-    Cursor {
-        count: 0,
-        mode: Mode::Skipping(fault),
+            mode: Mode::Skipping(fault),
+        }
+    } else {
+        BETWEEN_PACKETS
     }
 }
 
 // What one byte asks for, where so many bytes are held.
+#[tactic(auto, unfolding(crate::specs::Reader::step, crate::specs::Reader::inner, crate::specs::Reader::close, crate::specs::Reader::wrong_escape))]
 pub(crate) fn decide(mode: Mode, count: usize, b: u8) -> Action
     ensures { Acts count (stepping mode b) result }
 {
-    match mode {
-        Mode::Plain => {
-            if b == END {
-                return close(count);
-            }
-            if b == ESC {
-                return Action::Keep(Mode::Escaped);
-            }
-            store(count, b)
-        }
-        Mode::Escaped => {
-            if b == END {
-                return Action::Refuse(Fault::WrongEscape);
-            }
-            if b == ESC_END {
-                return store(count, END);
-            }
-            if b == ESC_ESC {
-                return store(count, ESC);
-            }
-            Action::Settle(Fault::WrongEscape)
-        }
-        Mode::Skipping(fault) => {
-            if b == END {
-                return Action::Give(PacketOutcome::Refused(fault));
-            }
-            Action::Skip(fault)
-        }
+    match (mode, b) {
+        (Mode::Plain, END) => close(count),
+        (Mode::Plain, ESC) => Action::Keep(Mode::Escaped),
+        (Mode::Plain, _) => store(count, b),
+        (Mode::Escaped, END) => Action::Refuse(Fault::WrongEscape),
+        (Mode::Escaped, ESC_END) => store(count, END),
+        (Mode::Escaped, ESC_ESC) => store(count, ESC),
+        (Mode::Escaped, _) => Action::Settle(Fault::WrongEscape),
+        (Mode::Skipping(fault), END) => Action::Give(PacketOutcome::Refused(fault)),
+        (Mode::Skipping(fault), _) => Action::Skip(fault),
     }
 }
 
@@ -110,12 +93,14 @@ fn close(count: usize) -> Action
     ensures { Acts count closing result }
 {
     if count == 0 {
-        return Action::Keep(Mode::Plain);
+        Action::Keep(Mode::Plain)
+    } else {
+        Action::Give(PacketOutcome::Packet(count))
     }
-    Action::Give(PacketOutcome::Packet(count))
 }
 
 // A decoded byte is stored while there is room for it.
+#[tactic(auto, unfolding(crate::specs::Reader::decoded, crate::specs::Reader::too_long))]
 fn store(count: usize, b: u8) -> Action
     ensures { Acts count (storing b) result }
 {

@@ -8,13 +8,14 @@ use Rattle.line.specs.declared.Cursor.{Cursor}
 use Rattle.frame.specs.Line.{limit, last, Clear, Takes, taken_clear}
 use Rattle.frame.specs.declared.FrameOutcome.{FrameOutcome as Given}
 use Rattle.frame.specs.declared.FrameOutcome.TheVariants as given
-use Rattle.frame.specs.declared.FrameAt.{FrameAt}
+use Rattle.line.specs.declared.AnswerAt.{AnswerAt}
 use Rattle.frame.specs.Frame.{Outcome, number, head}
 use Rattle.frame.specs.Reader.{END, State, Scan, taken_as, also, outcomes, final, step, read}
 use Rattle.frame.proofs.ReaderLaws.{outcomes_append, final_append, Tells, scan-tells, used-some}
 use Rattle.frame.specs.Answers.{told, Within, seen, answer_of, Answers}
 use Rattle.lister.specs.Lines.{refused_line, left_line, LINE}
 use Rattle.text.specs.Appended.{Memory, appended, Leaves}
+use Rattle.text.specs.declared.page.Page.{Page}
 use Rattle.text.specs.AppendedLaws.{leaves_wrote}
 use Rattle.lister.specs.declared.Listed.{Listed}
 use Rattle.lister.specs.Listing.{outcome_line, lines, left_after}
@@ -39,7 +40,7 @@ given-lines (given.Refused r) bs x e = append-nil (refused_line (number r.cause)
 -- ---- one call more
 
 -- of the bytes w, n were used; a call on the rest uses some more, and tells what they add
-pub record MoreUsed (s : State) (w : List ℕ) (n : ℕ) (bs : List ℕ) (t : FrameAt) : Type 0 where
+pub record MoreUsed (s : State) (w : List ℕ) (n : ℕ) (bs : List ℕ) (t : AnswerAt Given) : Type 0 where
   pub some : 0 < t.used
   pub within : n + t.used ≤ length w
   pub state : taken_as bs t.cursor.count t.cursor.mode ≡ final step s (take (n + t.used) w)
@@ -48,7 +49,7 @@ pub record MoreUsed (s : State) (w : List ℕ) (n : ℕ) (bs : List ℕ) (t : Fr
   pub full : length bs ≡ limit
   pub lines : lines (outcomes step s (take (n + t.used) w)) ≡ lines (outcomes step s (take n w)) ++ given_line t.outcome
 
-pub more_used : (s r : State) (w : List ℕ) (n : ℕ) (bs : List ℕ) (t : FrameAt) → n < length w → r ≡ final step s (take n w)
+pub more_used : (s r : State) (w : List ℕ) (n : ℕ) (bs : List ℕ) (t : AnswerAt Given) → n < length w → r ≡ final step s (take n w)
     → Answers (read r (take (length w - n) (drop n w))) (answer_of bs t) → MoreUsed s w n bs t
 more_used s r w n bs t h e a =
     let v : List ℕ = drop n w in
@@ -143,11 +144,11 @@ going_none w l bs full t = record {
   fits = omega arith;
 }
 
-pub going_more : {s : State} {w before after more bs cs : List ℕ} {p : Cursor} {n k j : ℕ} {t : FrameAt} → Going s w before after bs p n k
-    → MoreUsed s w n cs t → k + LINE ≤ length after → OutcomeLine t.outcome after k more j → Going s w before more cs t.cursor (n + t.used) j
-going_more {after = after} {k = k} {t = t} g x room y =
-    let h : k + length (given_line t.outcome) ≤ length after = omega (arith, y.short) in
-    let z = leaves_wrote h y.line in
+pub going_more : {s : State} {w before bs cs : List ℕ} {p : Cursor} {n : ℕ} {t : AnswerAt Given} {old new : Page} → Going s w before old.out.now bs p n old.at
+    → MoreUsed s w n cs t → old.at + LINE ≤ length old.out.now → OutcomeLine t.outcome old new → Going s w before new.out.now cs t.cursor (n + t.used) new.at
+going_more {t = t} {old = old} {new = new} g x room y =
+    let h : old.at + length (given_line t.outcome) ≤ length old.out.now = omega (arith, y.short) in
+    let z = leaves_wrote h y.line.leaves in
     record {
       within = x.within;
       full = x.full;

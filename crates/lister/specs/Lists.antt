@@ -8,6 +8,8 @@ use Rattle.frame.specs.Frame.{number}
 use Rattle.frame.specs.Reader.{State, taken, outcomes, final, step}
 use Rattle.lister.specs.Lines.{frame_line, refused_line, left_line, LINE}
 use Rattle.text.specs.Appended.{appended, Leaves}
+use Rattle.text.specs.Page.{Writes}
+use Rattle.text.specs.declared.page.Page.{Page}
 use Rattle.lister.specs.declared.Listed.{Listed}
 use Rattle.lister.specs.Listing.{lines, left_after, capped}
 
@@ -18,8 +20,8 @@ given_line (given.Frame c n) = frame_line c n
 given_line (given.Refused r) = refused_line (number r.cause) r.at
 
 -- `outcome_line`: it is appended, and is no longer than any line
-pub record OutcomeLine (o : Given) (before : List ℕ) (at : ℕ) (after : List ℕ) (next : ℕ) : Type 0 where
-  pub line : Leaves (appended before at (given_line o)) after next
+pub record OutcomeLine (o : Given) (old new : Page) : Type 0 where
+  pub line : Writes (given_line o) old new
   pub short : length (given_line o) ≤ LINE
 
 -- `answer`: an answer from its parts

@@ -7,6 +7,7 @@ ghost use Rattle.lister.specs.Lists.{Lists, listed_of};
 use crate::Listed;
 use crate::lines::LINE;
 use line::{Cursor, Reading};
+use text::Page;
 
 // Writes the lines of the outcomes of `wire` to the front of `out`, as long as there is room for any line.
 pub fn list(reading: Reading, left: u64, wire: &[u8], out: &mut [u8]) -> Listed
@@ -14,22 +15,20 @@ pub fn list(reading: Reading, left: u64, wire: &[u8], out: &mut [u8]) -> Listed
 {
     let mut bytes = reading.bytes;
     let mut cursor = frame::taken_cursor(reading);
+    // Stays: `at` is counted, no plainer else: bytes used are told, and the bytes before `at` are looked at for the last END.
     let mut at = 0;
-    let mut written = 0;
+    let mut page = Page { out, at: 0 };
     while at < wire.len() {
         // With room for the longest line a call goes on.
-        if out.len() - written < LINE {
-            return answer(bytes, cursor, left, wire, at, written);
+        if page.room() < LINE {
+            break;
         }
         let told = frame::read_in(&mut bytes, cursor, &wire[at..]);
-        let used = told.used;
-        let outcome = told.outcome;
-        let after = told.cursor;
-        written = crate::outcome::outcome_line(out, written, outcome);
-        cursor = after;
-        at += used;
+        crate::outcome::outcome_line(&mut page, told.outcome);
+        cursor = told.cursor;
+        at += told.used;
     }
-    answer(bytes, cursor, left, wire, at, written)
+    answer(bytes, cursor, left, wire, at, page.at)
 }
 
 // The answer where the bytes before `at` were used.
@@ -44,13 +43,11 @@ fn answer(
     requires { at ≤ length wire.now }
     ensures { result ≡ listed_of bytes cursor left wire.now at written }
 {
-    let count = cursor.count;
-    let mode = cursor.mode;
-    let since = crate::left::left_after(left, &wire[0..at]);
+    let Cursor { count, mode } = cursor;
     Listed {
         used: at,
-        written: written,
+        written,
         reading: Reading { bytes, count, mode },
-        left: since,
+        left: crate::left::left_after(left, &wire[..at]),
     }
 }

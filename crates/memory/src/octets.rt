@@ -7,27 +7,12 @@ ghost use Rattle.memory.specs.Octets.{same};
 pub fn byte(bytes: &[u8], place: usize) -> u8
     ensures { result ≡ get_or bytes.now place 0 }
 {
-    if bytes.len() <= place {
-        return 0;
-    }
-    bytes[place]
+    bytes.get(place).copied().unwrap_or(0)
 }
 
 // Whether two runs of bytes are the same: all bytes are compared.
 pub fn is_same(a: &[u8], b: &[u8]) -> bool
     ensures { result ≡ same a.now b.now }
 {
-    if a.len() != b.len() {
-        return false;
-    }
-    let mut i = 0;
-    while i < a.len() {
-        let x = a[i];
-        let y = b[i];
-        if x != y {
-            return false;
-        }
-        i += 1;
-    }
-    true
+    a == b
 }

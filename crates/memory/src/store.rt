@@ -9,10 +9,8 @@ pub fn copy(to: &mut [u8], start: usize, from: &[u8])
     ensures { to.new ≡ sets to.old start from.now }
 {
     let n = fit(to.len(), start, from.len());
-    let mut i = 0;
-    while i < n {
-        to[start + i] = from[i];
-        i += 1;
+    if n > 0 {
+        to[start..start + n].copy_from_slice(&from[..n]);
     }
 }
 
@@ -21,10 +19,8 @@ pub fn fill(to: &mut [u8], start: usize, count: usize, value: u8)
     ensures { to.new ≡ sets to.old start (replicate count value) }
 {
     let n = fit(to.len(), start, count);
-    let mut i = 0;
-    while i < n {
-        to[start + i] = value;
-        i += 1;
+    if n > 0 {
+        to[start..start + n].fill(value);
     }
 }
 
@@ -32,12 +28,5 @@ pub fn fill(to: &mut [u8], start: usize, count: usize, value: u8)
 fn fit(len: usize, start: usize, count: usize) -> usize
     ensures { result ≡ fitting len start count }
 {
-    if len <= start {
-        return 0;
-    }
-    let room = len - start;
-    if count < room {
-        return count;
-    }
-    room
+    count.min(len.saturating_sub(start))
 }

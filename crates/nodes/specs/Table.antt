@@ -1,8 +1,9 @@
 -- The node table (document 01, "What the commands do"): its layout, and what the commands and host calls do to it.
-use Rattle.std.specs.Prelude.{ℕ, zero, suc, ◌+◌, ◌-◌, ◌*◌, ◌/◌, ◌%◌, ◌^◌, List, [], ◌∷◌, ◌++◌, Bool, true, false, cond, ◌&&◌, length, take, drop, get_or, replicate, ltb, eqb}
+use Rattle.std.specs.Prelude.{ℕ, Option, None, Some, zero, suc, ◌+◌, ◌-◌, ◌*◌, ◌/◌, ◌%◌, ◌^◌, List, [], ◌∷◌, ◌++◌, Bool, cond, ◌&&◌, length, take, drop, get_or, replicate, ltb, eqb}
 use Rattle.std.proofs.lemmas.List.Edits.{sets}
 use Rattle.nodes.specs.declared.Field.{Field}
-use Rattle.nodes.specs.declared.Informed.{Informed}
+use Rattle.nodes.specs.declared.NodeStatus.{NodeStatus}
+use Rattle.nodes.specs.declared.NodeStatus.TheVariants.{Accepted, Rejected, InvalidNode}
 
 -- ---- layout
 
@@ -73,6 +74,12 @@ rejected = 1
 
 abbrev pub invalid_node : ℕ
 invalid_node = 2
+
+-- a status of the code by its number
+abbrev pub status_number : NodeStatus → ℕ
+status_number Accepted = accepted
+status_number Rejected = rejected
+status_number InvalidNode = invalid_node
 
 -- what a node command answers, and the table that it leaves
 pub record Result : Type 0 where
@@ -149,11 +156,8 @@ information t n = information_data (information_of t n)
 abbrev pub is_told : List ℕ → ℕ → Bool
 is_told t n = eqb (length t) table_size && in_use t n
 
-abbrev pub nothing : Informed
-nothing = record { known = false; bytes = replicate information_size 0 }
-
-unfoldable pub informed : List ℕ → ℕ → Informed
-informed t n = cond (is_told t n) (record { known = true; bytes = information t n }) nothing
+unfoldable pub informed : List ℕ → ℕ → Option (List ℕ)
+informed t n = cond (is_told t n) (Some (information t n)) None
 
 -- ---- remove nodes, virgin state
 

@@ -1,11 +1,10 @@
 -- Laws of the node table.
-use Rattle.std.specs.Prelude.{ℕ, zero, suc, ◌+◌, ◌*◌, ◌≤◌, ◌<◌, ◌≡◌, refl, List, [], ◌∷◌, Bool, true, false, cond, ◌&&◌, length, ltb}
+use Rattle.std.specs.Prelude.{ℕ, zero, suc, ◌+◌, ◌*◌, ◌≤◌, ◌<◌, ◌≡◌, refl, List, [], ◌∷◌, Bool, true, false, cond, ◌&&◌, None, Some, is_some, length, ltb}
 use Rattle.std.proofs.Common.{◌∙◌, arith, length-append, length-take, length-drop, ltb-true, eq-eqb}
 use Rattle.std.proofs.Math.Seq.{length-sets}
 use Rattle.nodes.specs.declared.Field.{Field}
-use Rattle.nodes.specs.declared.Informed.{Informed}
 use Rattle.nodes.specs.Cases.{either}
-use Rattle.nodes.specs.Table.{table_size, record_size, node_count, use_field, type_field, name_field, order_field, placement_field, variation_field, spare_field, order_and_placement, field_of, with_field, in_use, accepted, invalid_node, set_field, is_rejected, set_variation, Result, node_status, information_size, information, nothing, informed, is_removed, empty_record, remove_one, remove_below}
+use Rattle.nodes.specs.Table.{table_size, record_size, node_count, use_field, type_field, name_field, order_field, placement_field, variation_field, spare_field, order_and_placement, field_of, with_field, in_use, accepted, invalid_node, set_field, is_rejected, set_variation, Result, node_status, information_size, information, informed, is_removed, empty_record, remove_one, remove_below}
 
 -- the fields fill a record one behind the other
 fields_fill : (use_field.at + use_field.size ≡ type_field.at) × (type_field.at + type_field.size ≡ name_field.at)
@@ -69,15 +68,15 @@ used-below t n e = ltb-true n node_count (first (ltb n node_count) _ e)
     first true b e = refl
     first false b e = e
 
--- with a table of the right length, a node is known if it is in use, and then its information is told
-pub informed_known : (t : List ℕ) (n : ℕ) → length t ≡ table_size → (informed t n).known ≡ in_use t n
+-- with a table of the right length, a node is told of if it is in use, and then it is its information that is told
+pub informed_known : (t : List ℕ) (n : ℕ) → length t ≡ table_size → is_some (informed t n) ≡ in_use t n
 unfolding informed
 informed_known t n e = rw (eq-eqb (length t) table_size e) (go (in_use t n))
   where
-    go : (b : Bool) → (cond {A = Informed} b (record { known = true; bytes = information t n }) nothing).known ≡ b
+    go : (b : Bool) → is_some (cond b (Some (information t n)) None) ≡ b
     go true = refl
     go false = refl
 
-pub informed-bytes : (t : List ℕ) (n : ℕ) → length t ≡ table_size → in_use t n ≡ true → (informed t n).bytes ≡ information t n
+pub informed-bytes : (t : List ℕ) (n : ℕ) → length t ≡ table_size → in_use t n ≡ true → informed t n ≡ Some (information t n)
 unfolding informed
 informed-bytes t n e u = rw (eq-eqb (length t) table_size e, u)

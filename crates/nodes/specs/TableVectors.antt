@@ -1,7 +1,8 @@
 -- The table's commands, computed on three records of which only node 1 is in use, and the definitions' numbers at their edges.
-use Rattle.std.specs.Prelude.{ℕ, ◌*◌, ◌≡◌, refl, List, [], ◌∷◌, ◌++◌, map, true, false, replicate}
+use Rattle.std.specs.Prelude.{ℕ, ◌*◌, ◌≡◌, refl, List, [], ◌∷◌, ◌++◌, map, true, false, None, is_some, replicate}
 use Rattle.nodes.specs.declared.Field.{Field}
-use Rattle.nodes.specs.Table.{node_count, table_size, record_size, use_field, type_field, name_field, order_field, placement_field, variation_field, spare_field, order_and_placement, in_use, set_field, set_name, set_order_and_placement, set_variation, information_size, information, informed, bit, is_removed, remove_one, remove_below, remove, emptied, enrolled_record, enrolled}
+use Rattle.nodes.specs.declared.NodeStatus.TheVariants.{Accepted, Rejected, InvalidNode}
+use Rattle.nodes.specs.Table.{node_count, table_size, record_size, use_field, type_field, name_field, order_field, placement_field, variation_field, spare_field, order_and_placement, in_use, status_number, set_field, set_name, set_order_and_placement, set_variation, information_size, information, informed, bit, is_removed, remove_one, remove_below, remove, emptied, enrolled_record, enrolled}
 
 -- the table of document 01: nodes, bytes of a record, bytes of all; and the data bytes of frame 0210
 sizes : node_count ∷ record_size ∷ table_size ∷ information_size ∷ [] ≡ 200 ∷ 72 ∷ 14400 ∷ 124 ∷ []
@@ -52,18 +53,22 @@ varied : set_variation (with 7 5 9 0) 1 4 ∷ set_variation (with 7 5 9 4) 1 5 �
 unfolding with set_variation set_field in_use
 varied = refl
 
+-- the code's statuses by their numbers
+numbers : map status_number (Accepted ∷ Rejected ∷ InvalidNode ∷ []) ≡ 0 ∷ 1 ∷ 2 ∷ []
+numbers = refl
+
 -- section 8.3.3: node, order, placement, name, velocity, type, group, product, variation, and 50 bytes that are not kept
 information-bytes : information (with 7 5 9 4) 1 ≡ (1 ∷ 0 ∷ 5 ∷ 9 ∷ []) ++ replicate 64 7 ++ (0 ∷ 0x01 ∷ 0x02 ∷ 0 ∷ 0 ∷ 4 ∷ []) ++ replicate 50 0
 unfolding with information
 information-bytes = refl
 
 -- a node in use is known by a table of 14,400 bytes, and by no other
-known : map (λ (t : List ℕ). (informed t 1).known) (replicate 14399 1 ∷ replicate 14400 1 ∷ replicate 14401 1 ∷ []) ≡ false ∷ true ∷ false ∷ []
+known : map (λ (t : List ℕ). is_some (informed t 1)) (replicate 14399 1 ∷ replicate 14400 1 ∷ replicate 14401 1 ∷ []) ≡ false ∷ true ∷ false ∷ []
 unfolding informed in_use
 known = refl
 
 -- of a node that is not in use nothing is told
-unknown : informed (replicate 14400 2) 1 ≡ record { known = false; bytes = replicate 124 0 }
+unknown : informed (replicate 14400 2) 1 ≡ None
 unfolding informed in_use
 unknown = refl
 

@@ -3,21 +3,21 @@
 ghost use Rattle.std.specs.Prelude.{◌≡◌};
 ghost use Rattle.nodes.specs.Table.{emptied, enrolled};
 
+use crate::{NAME, RECORD};
+
 // All bytes become zero.
 pub fn empty(table: &mut [u8])
     ensures { table.new ≡ emptied table.old }
 {
-    let n = table.len();
-    memory::fill(table, 0, n, 0);
+    table.fill(0);
 }
 
 // A node's record is made anew: in use, with its type.
 pub fn enrol(table: &mut [u8], node: u8, kind: u16)
     ensures { table.new ≡ enrolled table.old node kind }
 {
-    let at = (node as usize) * crate::RECORD;
-    let front = [1, (kind / 256) as u8, (kind % 256) as u8];
-    memory::copy(table, at, &front);
-    let behind = crate::NAME.at;
-    memory::fill(table, at + behind, crate::RECORD - behind, 0);
+    let at = usize::from(node) * RECORD;
+    let [high, low] = kind.to_be_bytes();
+    memory::copy(table, at, &[1, high, low]);
+    memory::fill(table, at + NAME.at, RECORD - NAME.at, 0);
 }

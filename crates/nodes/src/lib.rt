@@ -3,6 +3,9 @@
 // It stands on `memory`.
 #![tactic(auto)]
 
+ghost use Rattle.std.specs.Prelude.{◌≡◌};
+ghost use Rattle.nodes.specs.Table.{status_number};
+
 mod enrolment;
 mod fields;
 mod notification;
@@ -14,6 +17,7 @@ pub use notification::information;
 pub use table::{bit, in_use, is_removed, remove};
 
 // How many nodes there are, how long a record is, and the table of all records.
+// Stays: the table is lent bytes and not an array of records: fixed memory that the host lends, in the layout of document 01.
 pub const NODES: usize = 200;
 
 pub const RECORD: usize = 72;
@@ -23,25 +27,34 @@ pub const TABLE: usize = NODES * RECORD;
 // How many bytes a node's information has.
 pub const INFORMATION: usize = 124;
 
-// The statuses of the node commands.
-pub const ACCEPTED: u8 = 0;
+// A node command's status.
+#[derive(Clone, Copy, PartialEq, Eq, Debug)]
+pub enum NodeStatus {
+    Accepted,
+    Rejected,
+    InvalidNode,
+}
 
-pub const REJECTED: u8 = 1;
+// Its number.
+impl From<NodeStatus> for u8 {
+    ghost from_gives = { λ s n. n ≡ status_number s };
 
-pub const INVALID_NODE: u8 = 2;
+    fn from(status: NodeStatus) -> u8
+        ensures { result ≡ status_number status }
+    {
+        match status {
+            NodeStatus::Accepted => 0,
+            NodeStatus::Rejected => 1,
+            NodeStatus::InvalidNode => 2,
+        }
+    }
+}
 
 // A field of a record: where it stands, and how long it is.
 #[derive(Clone, Copy)]
 pub struct Field {
     pub at: usize,
     pub size: usize,
-}
-
-// What is told of a node: its information, or that there is none.
-#[derive(Clone, Copy)]
-pub struct Informed {
-    pub known: bool,
-    pub bytes: [u8; INFORMATION],
 }
 
 // The fields of a record that commands write and tell.

@@ -1,1 +1,2 @@
 pub mod PasswordLaws
+mod ByteLaws

@@ -15,13 +15,9 @@ pub fn is_same(a: [u8; PASSWORD], b: [u8; PASSWORD]) -> bool
 {
     let mut same = true;
     let mut inside = true;
-    let mut i = 0;
-    while i < PASSWORD {
-        let x = a[i];
-        let y = b[i];
-        same = same & (!inside | (x == y));
-        inside = inside & (x != 0);
-        i += 1;
+    for (x, y) in a.iter().zip(&b) {
+        same &= !inside | (*x == *y);
+        inside &= *x != 0;
     }
     same
 }
@@ -30,14 +26,11 @@ pub fn is_same(a: [u8; PASSWORD], b: [u8; PASSWORD]) -> bool
 pub fn stored(bytes: [u8; PASSWORD]) -> [u8; PASSWORD]
     ensures { result ≡ stored bytes }
 {
-    let mut kept = [0u8; PASSWORD];
+    let mut kept = bytes;
     let mut inside = true;
-    let mut i = 0;
-    while i < PASSWORD {
-        let b = bytes[i];
-        inside = inside & (b != 0);
-        kept[i] = byte_if(inside, b);
-        i += 1;
+    for b in kept.iter_mut() {
+        inside &= *b != 0;
+        *b = byte_if(inside, *b);
     }
     kept
 }
@@ -45,8 +38,5 @@ pub fn stored(bytes: [u8; PASSWORD]) -> [u8; PASSWORD]
 fn byte_if(inside: bool, b: u8) -> u8
     ensures { result ≡ cond inside b 0 }
 {
-    if inside {
-        return b;
-    }
-    0
+    if inside { b } else { 0 }
 }

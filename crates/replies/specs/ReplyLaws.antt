@@ -1,5 +1,5 @@
 -- Laws of replies: how long they are, what writing one leaves, and how the frame layer's writers come to it.
-use Rattle.std.specs.Prelude.{ℕ, ◌+◌, ◌≤◌, ◌<◌, ◌≡◌, refl, List, [], ◌∷◌, ◌++◌, Bool, true, false, cond, ◌&&◌, take, drop, ltb, eqb}
+use Rattle.std.specs.Prelude.{ℕ, ◌+◌, ◌≤◌, ◌<◌, ◌≡◌, refl, List, [], ◌∷◌, ◌++◌, Bool, true, false, cond, ◌&&◌, Some, None, Err, is_some, take, drop, ltb, eqb}
 use Rattle.std.proofs.Common.{sym, ap, ◌∙◌, append-nil, append_assoc, length-append, drop_at}
 use Rattle.std.proofs.Math.Nat.{zero-add}
 use native.Mathlib.Omega.{arith}
@@ -7,10 +7,11 @@ use Rattle.std.proofs.Math.ListN.{length, length-drop}
 use Rattle.std.proofs.Math.Seq.{length-take-le}
 use borrow.Author.Tests.{lt-ltb, le-ltb, ltb-true, ltb-false, eq-eqb, eqb-true}
 use Rattle.frame.specs.Frame.{wire, max_data}
-use Rattle.frame.specs.Writer.{short_room, Writing, up_to, refused, no_fit, Wire, write, write_at, measured, Writes}
+use Rattle.frame.specs.declared.WriteRefusal.{WriteRefusal}
+use Rattle.frame.specs.declared.WriteRefusal.TheVariants.{ShortRoom, LongData}
+use Rattle.frame.specs.Writer.{short_room, long_data, Writing, up_to, refused, no_fit, told, Wire, write, write_at, measured, Writes}
 use Rattle.frame.specs.WireLaws.{numbered}
-use Rattle.nodes.specs.Table.{accepted, invalid_node, table_size, information_of, information, information_size, in_use, is_told, nothing, informed}
-use Rattle.nodes.specs.declared.Informed.{Informed}
+use Rattle.nodes.specs.Table.{accepted, invalid_node, table_size, information_of, information, information_size, in_use, is_told, informed}
 use Rattle.nodes.specs.TableLaws.{information-length, used-below}
 use Rattle.replies.specs.Messages.{Message, information_confirmed, node_information, data_of, wire_of, bytes_of, about_node}
 use Rattle.replies.specs.Replies.{write_all, is_written}
@@ -64,15 +65,15 @@ told-length t n e = go (eqb (length t) table_size) (in_use t n) refl refl e
     go false b p q e = let z : ◌≡◌ {A = ℕ} 0 1 = cc in absurd (omega arith)
 
 -- whether it is, and its information, are what the node table tells
-pub known_told : (t : List ℕ) (n : ℕ) → (informed t n).known ≡ is_told t n
+pub known_told : (t : List ℕ) (n : ℕ) → is_some (informed t n) ≡ is_told t n
 unfolding informed
 known_told t n = go (is_told t n)
   where
-    go : (b : Bool) → (cond {A = Informed} b (record { known = true; bytes = information t n }) nothing).known ≡ b
+    go : (b : Bool) → is_some (cond b (Some (information t n)) None) ≡ b
     go true = refl
     go false = refl
 
-pub told-bytes : (t : List ℕ) (n : ℕ) → is_told t n ≡ true → (informed t n).bytes ≡ information t n
+pub told-bytes : (t : List ℕ) (n : ℕ) → is_told t n ≡ true → informed t n ≡ Some (information t n)
 unfolding informed
 told-bytes t n e = rw e
 
@@ -135,6 +136,12 @@ write_all_refused room bytes n = go (ltb (length room) (length bytes)) refl
         → (n ≡ 9) × (length room < length bytes) × ((by room bytes b).room ≡ room)
     go true q e = let k : short_room ≡ n = cc in (sym k, ltb-true _ _ q, refl)
     go false q e = let z : ◌≡◌ {A = ℕ} 0 1 = cc in absurd (omega arith)
+
+-- so is each refusal of the code
+pub write_all_err : (room bytes : List ℕ) (e : WriteRefusal) → (write_all room bytes).answer ≡ told (Err e)
+    → (length room < length bytes) × ((write_all room bytes).room ≡ room)
+write_all_err room bytes ShortRoom p = let x = write_all_refused room bytes short_room p in (x.1, x.2)
+write_all_err room bytes LongData p = let x = write_all_refused room bytes long_data p in absurd (omega (arith, x.0))
 
 -- the room keeps its length
 pub write_all_length : (room bytes : List ℕ) → length (write_all room bytes).room ≡ length room
@@ -201,6 +208,13 @@ module _ (room : List ℕ) (c : ℕ) (d : List ℕ) (next : ℕ) (behind : List 
       let l : length laid ≡ length room = simp (length-append, length-drop, length-take-le (length x) room k) (omega arith) in
       rw (le-ltb _ _ fits, zero-add, le-ltb (length laid) (length x) (omega arith), laid-behind k) (sym (append_assoc x y _))
 
+  front-fits : length x + length y ≤ length room → is_written (write_at laid 0 c d).answer ≡ true
+  unfolding write_at
+  front-fits h =
+      let k : length x ≤ length room = omega arith in
+      let l : length laid ≡ length room = simp (length-append, length-drop, length-take-le (length x) room k) (omega arith) in
+      rw (le-ltb _ _ fits, zero-add, le-ltb (length laid) (length x) (omega arith)) refl
+
   -- where the second does not fit, the reply is refused, and nothing is written
   both_short : is_written second.answer ≡ false → write_all room (x ++ y) ≡ record { answer = numbered second.answer; room = second.room }
   both_short = go (ltb (length room) (length x + length y)) refl second-placed
@@ -221,6 +235,14 @@ module _ (room : List ℕ) (c : ℕ) (d : List ℕ) (next : ℕ) (behind : List 
           let h : length x + length y ≤ length room = ltb-false _ _ q in
           rw (s, first-placed h, ← length-append x y) (write_all_fits room (x ++ y) (rw length-append h))
 
+  -- and the first one fits in front of it
+  first-fits : is_written second.answer ≡ true → is_written (write_at second.room 0 c d).answer ≡ true
+  first-fits = go (ltb (length room) (length x + length y)) refl second-placed
+    where
+      go : (b : Bool) → ltb (length room) (length x + length y) ≡ b → second ≡ placed b → is_written second.answer ≡ true → is_written (write_at second.room 0 c d).answer ≡ true
+      go true q s e = let z : false ≡ true = rw s at e in let w : ◌≡◌ {A = ℕ} 0 1 = cc in absurd (omega arith)
+      go false q s e = rw s (front-fits (ltb-false _ _ q))
+
   -- in the answers' words: the second's is the reply's
   module _ (n : ℕ) (long : up_to n ≡ measured c d) (r a : Writing) (told : a ≡ numbered r) where
     pub both_refused : (left : List ℕ) → Writes (write_at room n next behind) r left → is_written r ≡ false → Writes (write_all room (x ++ y)) a left
@@ -233,3 +255,10 @@ module _ (room : List ℕ) (c : ℕ) (d : List ℕ) (next : ℕ) (behind : List 
     both-written mid left first w e again =
         let v = rw (measured-length c d fits n long) at w in
         rw (both-done (rw v.answer at e)) (record { answer = told ∙ ap numbered v.answer; room = rw v.room at again.room })
+
+    -- and the first one is not refused
+    pub first-written : (mid left : List ℕ) (first : Writing) → Writes (write_at room n next behind) r mid → is_written r ≡ true → Writes (write_at mid 0 c d) first left
+        → is_written first ≡ true
+    first-written mid left first w e again =
+        let v = rw (measured-length c d fits n long) at w in
+        rw again.answer (rw v.room (first-fits (rw v.answer at e)))

@@ -7,7 +7,8 @@ mod writing;
 
 pub use writing::write;
 
-// A reply by its numbers. What is told of a node stands in the table: AboutNode is frame 0201 and, where the node is in use, 0210.
+// A reply by its numbers, which `write` writes as they are. What is told of a node stands in the table: AboutNode is frame 0201 and, where the node is in use, 0210.
+// Stays: the statuses are bytes, since `write` writes any number that it is given; an enum of statuses would ask more of callers.
 #[derive(Clone, Copy)]
 pub enum Reply {
     Nothing,

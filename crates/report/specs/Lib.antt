@@ -6,5 +6,4 @@ pub mod StateVectors
 pub mod EntryVectors
 pub mod ReportLaws
 pub mod EntryLaws
-pub mod Word
 pub mod SlotLaws

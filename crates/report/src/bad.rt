@@ -1,31 +1,35 @@
-// The lines of a script that no call is made of: a line of text, appended to lent memory at a place.
+// The lines of a script that no call is made of: a line of text, appended to a page.
 // It is written whole or not at all, and is the definition's to the byte: specs/Report.antt.
-ghost use Rattle.text.specs.Appended.{appended, Leaves};
+ghost use Rattle.text.specs.Page.{Writes};
 ghost use Rattle.report.specs.Report.{bad_line, long_line};
 
-use text::LINE_END;
+use text::{LINE_END, Page};
 
 // No line is longer in front of its last number.
 const HEAD: usize = 42;
 
-const BAD_LINE: [u8; 9] = *b"bad line ";
+const BAD_LINE: &[u8] = b"bad line ";
 
-const WORD: [u8; 6] = *b" word ";
+const WORD: &[u8] = b" word ";
 
-const TOO_LONG: [u8; 10] = *b" too long\n";
+const TOO_LONG: &[u8] = b" too long\n";
 
 // "bad line N word W": the line's number, and that of its first word that cannot be taken.
-pub fn bad_line(out: &mut [u8], at: usize, line: u64, word: u8) -> usize
-    ensures { Leaves (appended out.old at (bad_line line word)) out.new result }
+pub fn bad_line(page: &mut Page, line: u64, word: u8)
+    ensures { Writes (bad_line line word) page.old page.new }
 {
-    let mut head = [0; HEAD];
-    let end = text::append_numbered(&mut head, 0, &BAD_LINE, line, &WORD);
-    text::append_numbered(out, at, &head[0..end], word as u64, &LINE_END)
+    let mut room = [0; HEAD];
+    let mut head = Page {
+        out: &mut room,
+        at: 0,
+    };
+    head.append_numbered(BAD_LINE, line, WORD);
+    page.append_numbered(head.written(), u64::from(word), LINE_END);
 }
 
 // "bad line N too long".
-pub fn long_line(out: &mut [u8], at: usize, line: u64) -> usize
-    ensures { Leaves (appended out.old at (long_line line)) out.new result }
+pub fn long_line(page: &mut Page, line: u64)
+    ensures { Writes (long_line line) page.old page.new }
 {
-    text::append_numbered(out, at, &BAD_LINE, line, &TOO_LONG)
+    page.append_numbered(BAD_LINE, line, TOO_LONG);
 }

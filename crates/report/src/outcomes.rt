@@ -1,60 +1,56 @@
-// What a replayed feed answers that ended a packet: lines of text, appended to lent memory at a place.
+// What a replayed feed answers that ended a packet: lines of text, appended to a page.
 // A line is written whole or not at all, and is the definition's to the byte: specs/Report.antt.
-ghost use Rattle.text.specs.Appended.{appended, Leaves};
+ghost use Rattle.text.specs.Page.{Writes};
 ghost use Rattle.report.specs.Report.{frame_line, packet_line};
 
+use crate::replies::Sent;
 use crate::{PLACED, REPLY, USED};
 use line::Places;
-use text::{DATA, PACKET};
+use text::{DATA, PACKET, Page};
 
 // No line is longer in front of its last number.
 const HEAD: usize = 42;
 
-const FRAME: [u8; 7] = *b" frame ";
+const FRAME: &[u8] = b" frame ";
 
 // "used U frame CCCC data D reply BYTES": a frame's command, and how many data bytes it has.
-pub fn frame_line(
-    out: &mut [u8],
-    at: usize,
-    used: usize,
-    command: u16,
-    len: usize,
-    reply: &[u8],
-    spilled: bool,
-) -> usize
-    ensures { Leaves (appended out.old at (frame_line used command len reply.now spilled)) out.new result }
+// Stays: it shares with packet_line an empty room and one append; a function of these needs a clause longer than they.
+pub fn frame_line(page: &mut Page, used: usize, command: u16, len: usize, reply: Sent)
+    ensures { Writes (frame_line used command len reply.entry.bytes.now reply.entry.spilled) page.old page.new }
 {
-    let mut head = [0; HEAD];
-    let hex = text::append_numbered(&mut head, 0, &USED, used as u64, &FRAME);
-    let word = text::append_hex4(&mut head, hex, command);
-    let end = text::append(&mut head, word, &DATA);
-    crate::replies::reply_line(out, at, &head[0..end], len as u64, &REPLY, reply, spilled)
+    let mut room = [0; HEAD];
+    let mut head = Page {
+        out: &mut room,
+        at: 0,
+    };
+    head.append_numbered(USED, used as u64, FRAME);
+    head.append_hex4(command);
+    head.append(DATA);
+    crate::replies::reply_line(page, head.written(), len as u64, REPLY, reply);
 }
 
 // "used U packet R at W D reply BYTES": the number of a packet's refusal, and where the packet broke.
-pub fn packet_line(
-    out: &mut [u8],
-    at: usize,
-    used: usize,
-    number: u8,
-    places: Places,
-    reply: &[u8],
-    spilled: bool,
-) -> usize
-    ensures { Leaves (appended out.old at (packet_line used number places reply.now spilled)) out.new result }
+pub fn packet_line(page: &mut Page, used: usize, number: u8, places: Places, reply: Sent)
+    ensures { Writes (packet_line used number places reply.entry.bytes.now reply.entry.spilled) page.old page.new }
 {
-    let mut head = [0; HEAD];
-    let end = text::append_numbered(&mut head, 0, &USED, used as u64, &PACKET);
-    let mut behind = [0; PLACED];
-    let word = text::append_places(&mut behind, 0, places);
-    let last = text::append(&mut behind, word, &REPLY);
+    let mut room = [0; HEAD];
+    let mut head = Page {
+        out: &mut room,
+        at: 0,
+    };
+    head.append_numbered(USED, used as u64, PACKET);
+    let mut more = [0; PLACED];
+    let mut behind = Page {
+        out: &mut more,
+        at: 0,
+    };
+    behind.append_places(places);
+    behind.append(REPLY);
     crate::replies::reply_line(
-        out,
-        at,
-        &head[0..end],
-        number as u64,
-        &behind[0..last],
+        page,
+        head.written(),
+        u64::from(number),
+        behind.written(),
         reply,
-        spilled,
-    )
+    );
 }

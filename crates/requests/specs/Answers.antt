@@ -3,20 +3,16 @@ use Rattle.std.specs.Prelude.{ℕ, ◌≤◌, ◌≡◌, List, cond, eqb, length
 use Rattle.line.specs.declared.Cursor.{Cursor}
 use Rattle.line.specs.declared.Reading.{Reading}
 use Rattle.frame.specs.Frame.{head}
-use Rattle.frame.specs.declared.FrameAt.{FrameAt}
 use Rattle.frame.specs.declared.FrameOutcome.{FrameOutcome}
 use Rattle.frame.specs.declared.FrameOutcome.TheVariants as outcome
 use Rattle.passwords.specs.Passwords.{is_same, stored}
 use Rattle.nodes.specs.Table.{set_name, set_order_and_placement, set_variation, remove, emptied}
 use Rattle.sessions.specs.Sessions as sessions
+use Rattle.sessions.specs.declared.ModeSend.{ModeSend}
 use Rattle.replies.specs.declared.Reply.{Reply}
 use Rattle.replies.specs.declared.Reply.TheVariants as reply
 use Rattle.replies.specs.Replies.{says}
 use Rattle.rules.specs.declared.Hub.{Hub}
-use Rattle.rules.specs.declared.CallRefusal.{CallRefusal}
-use Rattle.rules.specs.declared.FeedAnswer.TheVariants as feed
-use Rattle.rules.specs.declared.FedAt.{FedAt}
-use Rattle.rules.specs.declared.FedByValue.{FedByValue}
 use Rattle.rules.specs.Hub as rules
 use Rattle.rules.specs.Hub.{Response, password_size, change_size, with_password, with_slots}
 
@@ -25,18 +21,6 @@ use Rattle.rules.specs.Hub.{Response, password_size, change_size, with_password,
 -- the record of some bytes at a place
 abbrev pub reading_at : List ℕ → Cursor → Reading
 reading_at bs p = record { bytes = bs; count = p.count; mode = p.mode }
-
--- `refused`: hub and place as they were lent
-abbrev pub refused_feed : Hub → Cursor → CallRefusal → FedAt
-refused_feed h p why = record { answer = feed.Refused why; hub = h; cursor = p }
-
--- `told`: what was read, with the reply's length and the parts of the hub that is left
-abbrev pub told_feed : FrameAt → ℕ → Hub → FedAt
-told_feed a n h = record { answer = feed.Told a.used a.outcome n; hub = h; cursor = a.cursor }
-
--- `fed_of`: an answer with the record's bytes
-abbrev pub fed_of : List ℕ → FedAt → FedByValue
-fed_of bs f = record { answer = f.answer; hub = f.hub; reading = reading_at bs f.cursor }
 
 -- ---- what is done
 
@@ -110,7 +94,5 @@ password_status p d = cond (is_same d p) rules.correct rules.incorrect
 abbrev pub varied : List ℕ → List ℕ → Reply
 varied t d = reply.VariationSet (set_variation t (get_or d 0 0) (get_or d 1 0)).status (get_or d 0 0)
 
-abbrev pub confirmed : List ℕ → List ℕ → List ℕ → Reply
-confirmed b t d =
-    let q = sessions.mode_send_of d in
-    reply.ModeSendConfirmed q.session (sessions.mode_send_status (sessions.slots_of b) t q)
+abbrev pub confirmed : List ℕ → List ℕ → ModeSend → Reply
+confirmed b t q = reply.ModeSendConfirmed q.session (sessions.mode_send_status (sessions.slots_of b) t q)

@@ -1,183 +1,118 @@
 // Feed, with the record in and out by value, or its bytes where they lie (document 01, "Feed takes a line, bytes and reply room"): the call's
 // first refusals; reading up to the first outcome, on a copy of the record; what is answered, decided; refusal 9 or the reply written; and
 // only then hub, table and record changed. It stands on the reader of frames, on the replies and on the requests.
-ghost use Rattle.std.specs.Prelude.{◌<◌, ◌≡◌, length};
+ghost use Rattle.std.specs.Prelude.{◌≡◌, length};
 ghost use Rattle.frame.specs.Line.{limit};
 ghost use Rattle.frame.specs.Answers.{told, Within};
-ghost use Rattle.nodes.specs.Table.{table_size};
-ghost use Rattle.rules.specs.Hub.{line_count, respond_if};
+ghost use Rattle.rules.specs.Hub.{respond_if};
 ghost use Rattle.rules.specs.Promises.{Feeds};
-ghost use Rattle.requests.specs.Answers.{reading_at, refused_feed, told_feed, fed_of, hub_of, data_length, data_in, Decides};
+ghost use Rattle.requests.specs.Answers.{reading_at, data_length, data_in, Decides};
 
-use frame::{FrameAt, FrameOutcome, Written};
+use crate::decide::{RequestError, decide};
+use crate::effects::carry_out;
+use frame::FrameOutcome;
 use line::{Cursor, Reading};
 use replies::Reply;
-use rules::{CallRefusal, FedAt, FedByValue, FeedAnswer, Hub};
+use rules::{AnsweredByValue, CallRefusal, FedAt, Hub, SerialLine, Told};
 
 // Bytes on a line: reads up to the first outcome or the end of the bytes, and serves the outcome.
 pub fn call(
-    hub: Hub,
+    mut hub: Hub,
     table: &mut [u8],
     reading: Reading,
     line: u8,
     bytes: &[u8],
     room: &mut [u8],
-) -> FedByValue
+) -> AnsweredByValue<Told>
     ensures { Feeds hub table.old reading line bytes.now room.old result.answer result.hub table.new result.reading room.new }
 {
     let mut held = reading.bytes;
-    let count = reading.count;
-    let mode = reading.mode;
-    let fed = call_in(
+    let mut cursor = Cursor {
+        count: reading.count,
+        mode: reading.mode,
+    };
+    let answer = serve(&mut hub, table, &mut held, &mut cursor, line, bytes, room);
+    AnsweredByValue {
+        answer,
         hub,
-        table,
-        &mut held,
-        Cursor { count, mode },
-        line,
-        bytes,
-        room,
-    );
-    fed_of(held, fed)
+        reading: Reading {
+            bytes: held,
+            count: cursor.count,
+            mode: cursor.mode,
+        },
+    }
 }
 
 // The same with the record's bytes lent: they are read on a copy, which is put in their place once the reply is written.
 pub fn call_in(
-    hub: Hub,
+    mut hub: Hub,
     table: &mut [u8],
     held: &mut [u8; line::LIMIT],
-    cursor: Cursor,
+    mut cursor: Cursor,
     line: u8,
     bytes: &[u8],
     room: &mut [u8],
 ) -> FedAt
     ensures { Feeds hub table.old (reading_at held.old cursor) line bytes.now room.old result.answer result.hub table.new (reading_at held.new result.cursor) room.new }
+{
+    let answer = serve(&mut hub, table, held, &mut cursor, line, bytes, room);
+    FedAt {
+        answer,
+        hub,
+        cursor,
+    }
+}
+
+// The same with hub and cursor lent too: they are changed once the reply is written.
+fn serve(
+    hub: &mut Hub,
+    table: &mut [u8],
+    held: &mut [u8; line::LIMIT],
+    cursor: &mut Cursor,
+    line: u8,
+    bytes: &[u8],
+    room: &mut [u8],
+) -> Result<Told, CallRefusal>
+    ensures { Feeds hub.old table.old (reading_at held.old cursor.old) line bytes.now room.old result hub.new table.new (reading_at held.new cursor.new) room.new }
 {
     if table.len() != nodes::TABLE {
-        return refused(hub, cursor, CallRefusal::WrongTable);
+        return Err(CallRefusal::WrongTable);
     }
-    if rules::LINES <= line as usize {
-        return refused(hub, cursor, CallRefusal::WrongLine);
-    }
-    serve(hub, table, held, cursor, line, bytes, room)
-}
-
-// A feed with the right table, on one of the lines.
-fn serve(
-    hub: Hub,
-    table: &mut [u8],
-    held: &mut [u8; line::LIMIT],
-    cursor: Cursor,
-    line: u8,
-    bytes: &[u8],
-    room: &mut [u8],
-) -> FedAt
-    requires { (length table.old ≡ table_size) × (line < line_count) }
-    ensures { Feeds hub table.old (reading_at held.old cursor) line bytes.now room.old result.answer result.hub table.new (reading_at held.new result.cursor) room.new }
-{
+    let line = SerialLine::try_from(line)?;
     let mut tried = *held;
-    let read = frame::read_in(&mut tried, cursor, bytes);
-    let outcome = read.outcome;
-    let mut password = hub.password;
-    let mut logins = hub.logins;
-    let mut slots = hub.slots;
-    let reply = decide_outcome(&password, &logins, &slots, table, line, outcome, &tried);
+    let read = frame::read_in(&mut tried, *cursor, bytes);
+    let reply = decide_outcome(hub, table, line.number, read.outcome, &tried);
     match replies::write(room, reply, table) {
-        Written::Length(len) => {
-            let end = frame::HEAD + data_len(outcome);
-            crate::effects::carry_out(
-                &mut password,
-                &mut logins,
-                &mut slots,
-                table,
-                line,
-                reply,
-                &tried[frame::HEAD..end],
-            );
+        Ok(len) => {
+            let end = frame::HEAD + data_len(read.outcome);
+            carry_out(hub, table, line, reply, &tried[frame::HEAD..end]);
             *held = tried;
-            told(read, len, password, logins, slots)
+            *cursor = read.cursor;
+            Ok(Told {
+                used: read.used,
+                outcome: read.outcome,
+                len,
+            })
         }
-        Written::ShortRoom => refused(hub, cursor, CallRefusal::ShortRoom),
-        Written::LongData => refused(hub, cursor, CallRefusal::ShortRoom),
-    }
-}
-
-// What was read, with the reply's length and the parts of the hub that is left.
-fn told(
-    read: FrameAt,
-    len: usize,
-    password: [u8; passwords::PASSWORD],
-    logins: [u8; rules::LINES],
-    slots: [u8; sessions::TABLE],
-) -> FedAt
-    ensures { result ≡ told_feed read len (hub_of password logins slots) }
-{
-    let used = read.used;
-    let outcome = read.outcome;
-    let cursor = read.cursor;
-    FedAt {
-        answer: FeedAnswer::Told { used, outcome, len },
-        hub: Hub {
-            password,
-            logins,
-            slots,
-        },
-        cursor: cursor,
-    }
-}
-
-fn refused(hub: Hub, cursor: Cursor, refusal: CallRefusal) -> FedAt
-    ensures { result ≡ refused_feed hub cursor refusal }
-{
-    FedAt {
-        answer: FeedAnswer::Refused(refusal),
-        hub: hub,
-        cursor: cursor,
-    }
-}
-
-// An answer with the record's bytes.
-fn fed_of(bytes: [u8; line::LIMIT], fed: FedAt) -> FedByValue
-    ensures { result ≡ fed_of bytes fed }
-{
-    let answer = fed.answer;
-    let hub = fed.hub;
-    let cursor = fed.cursor;
-    let count = cursor.count;
-    let mode = cursor.mode;
-    FedByValue {
-        answer: answer,
-        hub: hub,
-        reading: Reading { bytes, count, mode },
+        Err(_) => Err(CallRefusal::ShortRoom),
     }
 }
 
 // What is answered to what was read, if it came to an outcome.
-fn decide_outcome(
-    password: &[u8; passwords::PASSWORD],
-    logins: &[u8; rules::LINES],
-    slots: &[u8; sessions::TABLE],
-    table: &[u8],
-    line: u8,
-    outcome: FrameOutcome,
-    held: &[u8],
-) -> Reply
+fn decide_outcome(hub: &Hub, table: &[u8], line: u8, outcome: FrameOutcome, held: &[u8]) -> Reply
     requires { (length held.now ≡ limit) × Within outcome }
-    ensures { Decides (respond_if (hub_of password.now logins.now slots.now) table.now line (told outcome held.now)) (hub_of password.now logins.now slots.now) table.now line (data_in outcome held.now) result }
+    ensures { Decides (respond_if hub.now table.now line (told outcome held.now)) hub.now table.now line (data_in outcome held.now) result }
 {
     match outcome {
         FrameOutcome::Nothing => Reply::Nothing,
-        FrameOutcome::Frame { command, len } => {
-            crate::decide::decide(
-                password,
-                logins,
-                slots,
-                table,
-                line,
-                command,
-                &held[frame::HEAD..frame::HEAD + len],
-            )
-        }
-        FrameOutcome::Refused(_) => Reply::Error(crate::decide::FRAME_ERROR),
+        FrameOutcome::Frame { command, len } => decide(
+            hub,
+            table,
+            line,
+            command,
+            &held[frame::HEAD..frame::HEAD + len],
+        ),
+        FrameOutcome::Refused(_) => Reply::Error(RequestError::Frame as u8),
     }
 }
 
@@ -186,8 +121,7 @@ fn data_len(outcome: FrameOutcome) -> usize
     ensures { result ≡ data_length outcome }
 {
     match outcome {
-        FrameOutcome::Nothing => 0,
-        FrameOutcome::Frame { command: _, len } => len,
-        FrameOutcome::Refused(_) => 0,
+        FrameOutcome::Frame { len, .. } => len,
+        FrameOutcome::Nothing | FrameOutcome::Refused(_) => 0,
     }
 }

@@ -1,12 +1,9 @@
 -- Calls made one after another on line 0, each on what the one before left.
-use Rattle.std.specs.Prelude.{ℕ, ◌+◌, ◌≡◌, List}
+use Rattle.std.specs.Prelude.{ℕ, ◌+◌, ◌≡◌, List, Ok, Err}
 use Rattle.line.specs.declared.Reading.{Reading}
 use Rattle.frame.specs.Reader.{emptied_reading}
 use Rattle.rules.specs.declared.Hub.{Hub}
-use Rattle.rules.specs.declared.FeedAnswer.{FeedAnswer}
-use Rattle.rules.specs.declared.FeedAnswer.TheVariants as feed
-use Rattle.rules.specs.declared.FinishAnswer.{FinishAnswer}
-use Rattle.rules.specs.declared.FinishAnswer.TheVariants as finish
+use Rattle.rules.specs.Answers.{FinishAnswer, FeedAnswer}
 use Rattle.rules.specs.Hub.{first_hub}
 use Rattle.rules.specs.Promises.{Feeds, Finishes}
 
@@ -19,12 +16,12 @@ pub record Kept : Type 0 where
 
 -- the length of the reply that an answer tells
 abbrev pub fed_length : FeedAnswer → ℕ
-fed_length (feed.Told used outcome n) = n
-fed_length (feed.Refused why) = 0
+fed_length (Ok x) = x.len
+fed_length (Err why) = 0
 
 abbrev pub finished_length : FinishAnswer → ℕ
-finished_length (finish.Finished line n) = n
-finished_length (finish.Refused why) = 0
+finished_length (Ok n) = n.len
+finished_length (Err why) = 0
 
 -- a feed of the bytes w, with a reply of n bytes
 pub record Fed (w : List ℕ) (k : Kept) (n : ℕ) (k' : Kept) : Type 0 where

@@ -3,11 +3,15 @@
 // What the rounds promise is what the calls promise, one after another: specs/Rounds.antt. It stands on the calls of `hub`.
 #![tactic(auto)]
 
-ghost use Rattle.std.specs.Prelude.{◌≡◌};
+ghost use Rattle.std.specs.Prelude.{◌≡◌, replicate};
+ghost use Rattle.frame.specs.Line.{limit};
+ghost use Rattle.frame.specs.Reader.{emptied_reading};
+ghost use Rattle.requests.specs.Answers.{reading_at};
+ghost use Rattle.rules.specs.Hub.{first_hub};
 ghost use Rattle.rounds.specs.Rounds.{fed_length, finished_length, Fed, Sent, Makes};
 
 use line::{Cursor, Mode};
-use rules::{FeedAnswer, FinishAnswer};
+use rules::{CallRefusal, FedAt, Notice, Told};
 
 // Feeds on line 0 of a hub before any start: `login` once, then `bytes` in each round. The answer is the length of the last reply.
 #[unsafe(no_mangle)]
@@ -21,30 +25,15 @@ pub extern "C" fn rounds_feed(
     ensures { Makes (Fed bytes.now) login.now rounds table.old room.old result table.new room.new }
 {
     let mut held = [0u8; line::LIMIT];
-    let count = 0;
-    let mode = Mode::Plain;
-    let entered = hub::feed_in(
-        hub::first(),
-        table,
-        &mut held,
-        Cursor { count, mode },
-        0,
-        login,
-        room,
-    );
+    let entered = enter(table, &mut held, login, room);
     let mut kept = entered.hub;
     let mut cursor = entered.cursor;
     let mut len = 0;
-    let mut left = rounds;
-    while 0 < left {
+    for _ in 0..rounds {
         let fed = hub::feed_in(kept, table, &mut held, cursor, 0, bytes, room);
-        let next = fed.hub;
-        let after = fed.cursor;
-        let answer = fed.answer;
-        kept = next;
-        cursor = after;
-        len = fed_len(answer);
-        left -= 1;
+        kept = fed.hub;
+        cursor = fed.cursor;
+        len = fed_len(fed.answer);
     }
     len
 }
@@ -62,54 +51,41 @@ pub extern "C" fn rounds_finish(
     ensures { Makes (Sent bytes.now session) login.now rounds table.old room.old result table.new room.new }
 {
     let mut held = [0u8; line::LIMIT];
-    let count = 0;
-    let mode = Mode::Plain;
-    let entered = hub::feed_in(
-        hub::first(),
-        table,
-        &mut held,
-        Cursor { count, mode },
-        0,
-        login,
-        room,
-    );
+    let entered = enter(table, &mut held, login, room);
     let mut kept = entered.hub;
     let mut cursor = entered.cursor;
     let mut len = 0;
-    let mut left = rounds;
-    while 0 < left {
+    for _ in 0..rounds {
         let sent = hub::feed_in(kept, table, &mut held, cursor, 0, bytes, room);
-        let after = sent.cursor;
-        cursor = after;
+        cursor = sent.cursor;
         let finished = hub::finish(sent.hub, session, room);
-        let next = finished.hub;
-        let answer = finished.answer;
-        kept = next;
-        len = finished_len(answer);
-        left -= 1;
+        kept = finished.hub;
+        len = finished_len(finished.answer);
     }
     len
 }
 
-// The length of the reply that an answer tells.
-fn fed_len(answer: FeedAnswer) -> usize
-    ensures { result ≡ fed_length answer }
+// The login, fed to a hub before any start on an emptied record.
+fn enter(table: &mut [u8], held: &mut [u8; line::LIMIT], login: &[u8], room: &mut [u8]) -> FedAt
+    requires { held.old ≡ replicate limit 0 }
+    ensures { Fed login.now (record { hub = first_hub; table = table.old; reading = emptied_reading; room = room.old }) (fed_length result.answer) (record { hub = result.hub; table = table.new; reading = reading_at held.new result.cursor; room = room.new }) }
 {
-    match answer {
-        FeedAnswer::Told {
-            used: _,
-            outcome: _,
-            len,
-        } => len,
-        FeedAnswer::Refused(_) => 0,
-    }
+    let start = Cursor {
+        count: 0,
+        mode: Mode::Plain,
+    };
+    hub::feed_in(hub::first(), table, held, start, 0, login, room)
 }
 
-fn finished_len(answer: FinishAnswer) -> usize
+// The length of the reply that an answer tells.
+fn fed_len(answer: Result<Told, CallRefusal>) -> usize
+    ensures { result ≡ fed_length answer }
+{
+    answer.map_or(0, |told| told.len)
+}
+
+fn finished_len(answer: Result<Notice, CallRefusal>) -> usize
     ensures { result ≡ finished_length answer }
 {
-    match answer {
-        FinishAnswer::Finished { line: _, len } => len,
-        FinishAnswer::Refused(_) => 0,
-    }
+    answer.map_or(0, |notice| notice.len)
 }

@@ -1,6 +1,6 @@
 -- What holds of each case of a choice holds of what is chosen.
+use Rattle.std.specs.Prelude as std
 use Rattle.std.specs.Prelude.{ℕ, ◌≡◌, List, true, drop, get_or, eqb}
-use Rattle.std.proofs.Math.Option.{Option, none, some}
 use Rattle.nodes.specs.Cases.{either_by}
 use Rattle.nodes.specs.Table.{set_variation, set_name, set_order_and_placement}
 use Rattle.replies.specs.Messages.{password_entered, password_changed, variation_set, name_set, order_and_placement_set}
@@ -8,9 +8,9 @@ use Rattle.rules.specs.declared.Hub.{Hub}
 use Rattle.rules.specs.Hub.{Response, unknown_command, failure, by_verdict, enter, changed, password_enter, password_change, reply, node_reply, get_node, remove_nodes, virgin_state, mode_send, request}
 pub use Rattle.nodes.specs.Cases.{either}
 
-pub each_verdict : (P : Response → Type 0) (v : Option ℕ) (f : ℕ → Response) (x : Response) → ((e : ℕ) → P (f e)) → P x → P (by_verdict v f x)
-each_verdict P (some e) f x p q = p e
-each_verdict P none f x p q = q
+pub each_verdict : (P : Response → Type 0) (v : std.Option ℕ) (f : ℕ → Response) (x : Response) → ((e : ℕ) → P (f e)) → P x → P (by_verdict v f x)
+each_verdict P (std.Some e) f x p q = p e
+each_verdict P std.None f x p q = q
 
 -- the requests served, in the order of their definition, and one that is not served
 pub each_request : (P : Response → Type 0) (h : Hub) (t : List ℕ) (l c : ℕ) (d : List ℕ)

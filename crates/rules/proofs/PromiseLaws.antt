@@ -3,9 +3,8 @@ use Rattle.std.specs.Prelude.{ℕ, List}
 use Rattle.line.specs.declared.Reading.{Reading}
 use Rattle.feeds.specs.Service.{Promise}
 use Rattle.rules.specs.declared.Hub.{Hub}
-use Rattle.rules.specs.declared.FeedAnswer.{FeedAnswer}
 use Rattle.rules.specs.Hub.{hub}
-use Rattle.rules.specs.Answers.{fed_of}
+use Rattle.rules.specs.Answers.{FeedAnswer, fed_of}
 use Rattle.rules.specs.Promises.{Feeds}
 
 pub feeds_promise : {h : Hub} {t : List ℕ} {s : Reading} {l : ℕ} {bytes space : List ℕ} {a : FeedAnswer} {h' : Hub} {t' : List ℕ} {e : Reading} {left : List ℕ}

@@ -18,9 +18,7 @@ use Rattle.feeds.proofs.CallLaws.{call_refused, answer_refused}
 use Rattle.replies.specs.Messages.{error, bytes_of}
 use Rattle.rules.specs.declared.Hub.{Hub}
 use Rattle.rules.specs.Hub.{frame_error, respond, respond_if, Reply, serve, start_refusal, start_by, start, enrol_refusal, enrol_by, enrol, close_refusal, close_by, Closed, closed_line, close, Finish, refused_finish, finished_on, Finished, finish_by, finish, notice, with_slots, line_count, password_size, written, refuse_if, wrong_table, wrong_line, short_room, feed_refusal, hub}
-use Rattle.rules.specs.declared.CallAnswer.{CallAnswer}
-use Rattle.rules.specs.declared.FinishAnswer.{FinishAnswer}
-use Rattle.rules.specs.Answers.{refusal_of, finish_of}
+use Rattle.rules.specs.Answers.{CallAnswer, FinishAnswer, refusal_of, finish_of}
 use Rattle.rules.specs.Promises.{Closes, Finishes}
 
 -- start gives back the hub and the table that it was lent

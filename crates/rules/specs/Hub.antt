@@ -1,4 +1,5 @@
 -- The hub (document 01, "The command directory", "What the commands do", host calls, "Numbers of refusal").
+use Rattle.std.specs.Prelude as std
 use Rattle.std.specs.Prelude.{ℕ, ◌+◌, List, [], ◌∷◌, Bool, true, false, cond, not, ◌||◌, length, take, drop, set, get_or, replicate, ltb, eqb}
 use Rattle.std.proofs.Math.Option.{Option, none, some}
 use Rattle.passwords.specs.Passwords.{is_same, stored}
@@ -65,9 +66,9 @@ abbrev pub failure : Hub → List ℕ → ℕ → Response
 failure h t e = record { hub = h; table = t; says = error e ∷ [] }
 
 -- the failure that the directory gives an error for, or else what follows
-abbrev pub by_verdict : Option ℕ → (ℕ → Response) → Response → Response
-by_verdict (some e) f x = f e
-by_verdict none f x = x
+abbrev pub by_verdict : std.Option ℕ → (ℕ → Response) → Response → Response
+by_verdict (std.Some e) f x = f e
+by_verdict std.None f x = x
 
 -- ---- the hub with one part changed
 

@@ -6,11 +6,8 @@ use Rattle.line.specs.declared.Reading.{Reading}
 use Rattle.frame.specs.Reader.{taken}
 use Rattle.feeds.specs.System.{refused, call}
 use Rattle.rules.specs.declared.Hub.{Hub}
-use Rattle.rules.specs.declared.CallAnswer.{CallAnswer}
-use Rattle.rules.specs.declared.FinishAnswer.{FinishAnswer}
-use Rattle.rules.specs.declared.FeedAnswer.{FeedAnswer}
 use Rattle.rules.specs.Hub.{start, enrol, close, finish, hub as system}
-use Rattle.rules.specs.Answers.{refusal_of, started_of, enrolled_of, finish_of, answer_of, BoundedClosed, BoundedFed}
+use Rattle.rules.specs.Answers.{CallAnswer, FinishAnswer, FeedAnswer, refusal_of, started_of, enrolled_of, finish_of, answer_of, BoundedClosed, BoundedFed}
 
 -- Start: lent the hub h and the table t, it answers a, and leaves the hub h' and the table t'; refusal, hub and table are the definition's.
 abbrev pub Starts : Hub → List ℕ → List ℕ → CallAnswer → Hub → List ℕ → Type 0

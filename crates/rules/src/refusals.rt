@@ -8,13 +8,5 @@ use crate::CallRefusal;
 pub fn number(refusal: CallRefusal) -> u8
     ensures { result ≡ number refusal }
 {
-    match refusal {
-        CallRefusal::WrongTable => 7,
-        CallRefusal::WrongLine => 8,
-        CallRefusal::ShortRoom => 9,
-        CallRefusal::WrongNode => 11,
-        CallRefusal::NodeInUse => 12,
-        CallRefusal::NotOpen => 13,
-        CallRefusal::WrongPassword => 14,
-    }
+    refusal as u8
 }

@@ -1,18 +1,16 @@
 -- A line by its length, its first byte and its call word.
-use Rattle.std.specs.Prelude.{ℕ, ◌+◌, ◌-◌, ◌≤◌, ◌<◌, ◌≡◌, refl, List, [], ◌∷◌, true, false, length, take, get_or, eqb}
+use Rattle.std.specs.Prelude.{ℕ, ◌+◌, ◌-◌, ◌≤◌, ◌<◌, ◌≡◌, refl, List, [], ◌∷◌, true, false, length, take, get_or, eqb, Option, Some, None}
 use Rattle.std.proofs.Common.{sym, ap, ◌∙◌, arith, le-leb}
-use Rattle.std.proofs.Math.Option.{some, some-injective}
 use Rattle.std.proofs.lemmas.Bool.{lt-leb}
+use Rattle.std.proofs.lemmas.Option.{same_Some}
 use Rattle.script.specs.Script.{longest, table_most, table_right, words, first, table_of, number_up_to, remark, long, called, call_of, hash, is_remark, parse}
-use Rattle.script.specs.declared.Taken.{Taken}
-use Rattle.script.specs.declared.Taken.TheVariants as taken
 use Rattle.script.specs.Code.{word_end, words_from, Numbered, TableAt}
 use Rattle.script.specs.WordLaws.{from-behind, from_within, from_cut}
 use Rattle.script.specs.ByteLaws.{up_to_most}
 
 -- ---- [TABLE]
 
-pub table_none : (l : List ℕ) (i : ℕ) → length l < i → table_of (words_from l i) ≡ some table_right
+pub table_none : (l : List ℕ) (i : ℕ) → length l < i → table_of (words_from l i) ≡ Some table_right
 unfolding table_of
 table_none l i h = rw (from-behind l i h)
 
@@ -21,13 +19,13 @@ unfolding table_of
 table_word l i h = rw (from_cut l i h)
 
 -- the number of the word is that of [TABLE]
-pub table-numbered : (l : List ℕ) (i : ℕ) (r : Taken) → i ≤ length l → Numbered l i table_most r → TableAt l i r
-table-numbered l i (taken.Word value next) h n = (table_word l i h ∙ n.0, n.1)
-table-numbered l i taken.Nothing h n = table_word l i h ∙ n
+pub table-numbered : (l : List ℕ) (i : ℕ) (left : List (List ℕ)) (r : Option ℕ) → i ≤ length l → Numbered table_most (words_from l i) left r → TableAt (words_from l i) left r
+table-numbered l i left (Some n) h p = (table_word l i h ∙ p.0, p.1)
+table-numbered l i left None h p = table_word l i h ∙ p
 
-pub table_most_lem : (ws : List (List ℕ)) (n : ℕ) → table_of ws ≡ some n → n ≤ table_most
+pub table_most_lem : (ws : List (List ℕ)) (n : ℕ) → table_of ws ≡ Some n → n ≤ table_most
 unfolding table_of
-table_most_lem [] n e = let same_number = some-injective table_right n e in omega arith
+table_most_lem [] n e = let same_number = same_Some table_right n e in omega arith
 table_most_lem (w ∷ ws) n e = up_to_most table_most w n e
 
 -- ---- remarks
@@ -52,7 +50,7 @@ pub parse_remark : (l : List ℕ) → length l ≤ longest → is_remark l ≡ t
 unfolding parse
 parse_remark l h e = rw (le-leb (length l) longest h, e)
 
-parse-words : (l : List ℕ) → length l ≤ longest → is_remark l ≡ false → parse l ≡ call_of (words l)
+pub parse-words : (l : List ℕ) → length l ≤ longest → is_remark l ≡ false → parse l ≡ call_of (words l)
 unfolding parse
 parse-words l h e = rw (le-leb (length l) longest h, e)
 

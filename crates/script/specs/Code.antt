@@ -1,10 +1,7 @@
 -- What the functions of `hex`, `numbers` and `parser` answer.
-use Rattle.std.specs.Prelude.{ℕ, suc, ◌+◌, ◌*◌, ◌≤◌, ◌<◌, min, ◌≡◌, List, [], ◌∷◌, cond, ◌&&◌, length, take, drop, leb, ltb, eqb}
-use Rattle.std.proofs.Math.Option.{Option, none, some}
-use Rattle.script.specs.declared.Number.{Number}
-use Rattle.script.specs.declared.Number.TheVariants.{Value, Nothing}
-use Rattle.script.specs.declared.Taken.{Taken}
-use Rattle.script.specs.declared.Taken.TheVariants as taken
+use Rattle.std.specs.Prelude.{ℕ, suc, ◌+◌, ◌*◌, ◌≤◌, min, ◌≡◌, List, [], ◌∷◌, cond, ◌&&◌, length, take, drop, leb, ltb, eqb, Option, Some, None}
+use Rattle.std.specs.Borrow.{Bor}
+use Rattle.script.specs.declared.Words.{Words}
 use Rattle.script.specs.Script.{space, words, first, rest, number_up_to, hex_value, bytes, session, table_of}
 
 -- how many bytes stand before the first space
@@ -20,42 +17,46 @@ word_end l from = min (length l) (from + word_length (drop from l))
 unfoldable pub words_from : List ℕ → ℕ → List (List ℕ)
 words_from l from = cond (leb from (length l)) (words (drop from l)) []
 
--- the number that an answer tells
-abbrev pub told : Number → Option ℕ
-told (Value n) = some n
-told Nothing = none
+-- the words that are still to come
+abbrev pub to_come : Words → List (List ℕ)
+to_come ws = words_from ws.line.now ws.from
 
-abbrev pub Below : ℕ → Number → Type 0
-Below most (Value n) = n < most
-Below most Nothing = Unit {0}
+-- the next word, and the others left in `next`; none behind the line's end
+abbrev pub WordAt : Words → Words → Option (Bor (List ℕ)) → Type 0
+WordAt ws next None = to_come ws ≡ []
+WordAt ws next (Some word) = (first (to_come ws) ≡ word.now) × (rest (to_come ws) ≡ to_come next) × (length word.now ≤ length ws.line.now)
 
--- the number in the word at a place, up to the most that it may be; the other words start at `next`
-abbrev pub Numbered : List ℕ → ℕ → ℕ → Taken → Type 0
-Numbered l from most (taken.Word value next) =
-    (number_up_to most (first (words_from l from)) ≡ some value) × (rest (words_from l from) ≡ words_from l next)
-Numbered l from most taken.Nothing = number_up_to most (first (words_from l from)) ≡ none
+-- what the first of some words is, and the others, which are left
+abbrev pub Taken : Option ℕ → List (List ℕ) → List (List ℕ) → Option ℕ → Type 0
+Taken is ws left (Some n) = (is ≡ Some n) × (rest ws ≡ left)
+Taken is ws left None = is ≡ None
 
--- [TABLE] at a place
-abbrev pub TableAt : List ℕ → ℕ → Taken → Type 0
-TableAt l from (taken.Word value next) = (table_of (words_from l from) ≡ some value) × (rest (words_from l from) ≡ words_from l next)
-TableAt l from taken.Nothing = table_of (words_from l from) ≡ none
+-- a number up to the most that it may be
+abbrev pub Numbered : ℕ → List (List ℕ) → List (List ℕ) → Option ℕ → Type 0
+Numbered most ws = Taken (number_up_to most (first ws)) ws
 
--- SESSION at a place
-abbrev pub SessionAt : List ℕ → ℕ → Taken → Type 0
-SessionAt l from (taken.Word value next) = (session (first (words_from l from)) ≡ some value) × (rest (words_from l from) ≡ words_from l next) × (value < 65536)
-SessionAt l from taken.Nothing = session (first (words_from l from)) ≡ none
+-- [TABLE]
+abbrev pub TableAt : List (List ℕ) → List (List ℕ) → Option ℕ → Type 0
+TableAt ws = Taken (table_of ws) ws
+
+-- SESSION
+abbrev pub SessionAt : List (List ℕ) → List (List ℕ) → Option ℕ → Type 0
+SessionAt ws = Taken (session (first ws)) ws
 
 -- the bytes of a word, stored at the front of `out`
-abbrev pub Stored : Option (List ℕ) → List ℕ → Number → Type 0
-Stored bs out (Value n) = (bs ≡ some (take n out)) × (n ≤ length out)
-Stored bs out Nothing = bs ≡ none
+abbrev pub Stored : Option (List ℕ) → List ℕ → Option ℕ → Type 0
+Stored bs out (Some n) = (bs ≡ Some (take n out)) × (n ≤ length out)
+Stored bs out None = bs ≡ None
 
--- the word of bytes at a place, stored
-abbrev pub BytesAt : List ℕ → ℕ → List ℕ → Taken → Type 0
-BytesAt l from out (taken.Word len next) =
-    (bytes (first (words_from l from)) ≡ some (take len out)) × (len ≤ length out) × (rest (words_from l from) ≡ words_from l next)
-BytesAt l from out taken.Nothing = bytes (first (words_from l from)) ≡ none
+-- the bytes of the first of some words, stored
+abbrev pub BytesAt : List (List ℕ) → List ℕ → List (List ℕ) → Option ℕ → Type 0
+BytesAt ws out left (Some n) = (bytes (first ws) ≡ Some (take n out)) × (n ≤ length out) × (rest ws ≡ left)
+BytesAt ws out left None = bytes (first ws) ≡ None
 
--- the byte of two digits; 256 where one is none
-unfoldable pub pair_of : ℕ → ℕ → ℕ
-pair_of h l = cond (ltb (hex_value h) 16 && ltb (hex_value l) 16) (hex_value h * 16 + hex_value l) 256
+-- the value of a digit, if it is one
+unfoldable pub digit_of : ℕ → Option ℕ
+digit_of b = cond (ltb (hex_value b) 16) (Some (hex_value b)) None
+
+-- the byte of two digits, if both are
+unfoldable pub pair_of : ℕ → ℕ → Option ℕ
+pair_of h l = cond (ltb (hex_value h) 16 && ltb (hex_value l) 16) (Some (hex_value h * 16 + hex_value l)) None

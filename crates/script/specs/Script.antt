@@ -1,6 +1,5 @@
 -- A line of the script (docs/REPLAY.md), the bytes between two LFs: a remark, a call, or the number of its first word that cannot be taken.
-use Rattle.std.specs.Prelude.{ℕ, ◌+◌, ◌*◌, ◌-◌, ◌%◌, List, [], ◌∷◌, Bool, true, false, cond, not, ◌&&◌, ◌||◌, length, get_or, leb, ltb, eqb}
-use Rattle.std.proofs.Math.Option.{Option, none, some}
+use Rattle.std.specs.Prelude.{ℕ, ◌+◌, ◌*◌, ◌-◌, ◌%◌, List, [], ◌∷◌, Bool, true, false, cond, not, ◌&&◌, ◌||◌, length, get_or, leb, ltb, eqb, Option, Some, None}
 use Rattle.memory.specs.Octets.{same}
 use Rattle.nodes.specs.Table.{table_size}
 use Rattle.text.specs.Text.{ascii}
@@ -69,8 +68,8 @@ between low high b = leb low b && leb b high
 
 -- the value of decimal digits, 0 to 9, behind others of the value v
 unfoldable pub digits_from : ℕ → List ℕ → Option ℕ
-digits_from v [] = some v
-digits_from v (d ∷ ds) = cond (between 48 57 d) (digits_from (v * 10 + (d - 48)) ds) none
+digits_from v [] = Some v
+digits_from v (d ∷ ds) = cond (between 48 57 d) (digits_from (v * 10 + (d - 48)) ds) None
 
 -- a zero before others
 abbrev pub leading_zero : List ℕ → Bool
@@ -82,11 +81,11 @@ is_plain w = ltb 0 (length w) && leb (length w) digits_most && not (leading_zero
 
 -- decimal, without sign or leading zeros
 unfoldable pub number : List ℕ → Option ℕ
-number w = cond (is_plain w) (digits_from 0 w) none
+number w = cond (is_plain w) (digits_from 0 w) None
 
 abbrev pub kept : ℕ → Option ℕ → Option ℕ
-kept most none = none
-kept most (some n) = cond (leb n most) (some n) none
+kept most None = None
+kept most (Some n) = cond (leb n most) (Some n) None
 
 -- a number out of its range is none
 unfoldable pub number_up_to : ℕ → List ℕ → Option ℕ
@@ -119,7 +118,7 @@ pairs (h ∷ []) = []
 pairs (h ∷ l ∷ bs) = (hex_value h * 16 + hex_value l) ∷ pairs bs
 
 unfoldable pub bytes : List ℕ → Option (List ℕ)
-bytes w = cond (is_bytes w) (some (pairs w)) none
+bytes w = cond (is_bytes w) (Some (pairs w)) None
 
 -- ---- sessions
 
@@ -130,7 +129,7 @@ hex_from v (d ∷ ds) = hex_from (v * 16 + hex_value d) ds
 
 -- exactly four digits
 unfoldable pub session : List ℕ → Option ℕ
-session w = cond (eqb (length w) 4 && all_hex w) (some (hex_from 0 w)) none
+session w = cond (eqb (length w) 4 && all_hex w) (Some (hex_from 0 w)) None
 
 -- ---- calls
 
@@ -152,41 +151,41 @@ pub data Line : Type 0 where
 
 -- [TABLE]: without the word, the right length
 unfoldable pub table_of : List (List ℕ) → Option ℕ
-table_of [] = some table_right
+table_of [] = Some table_right
 table_of (w ∷ ws) = number_up_to table_most w
 
 -- the words of each call, left to right: what each is taken for, if it can be, and whether none is left
 abbrev pub starts : Option (List ℕ) → Option ℕ → Bool → Line
-starts none t e = wrong 2
-starts (some bs) none e = wrong 3
-starts (some bs) (some t) false = wrong 4
-starts (some bs) (some t) true = call (start bs t)
+starts None t e = wrong 2
+starts (Some bs) None e = wrong 3
+starts (Some bs) (Some t) false = wrong 4
+starts (Some bs) (Some t) true = call (start bs t)
 
 abbrev pub enrols : Option ℕ → Option ℕ → Option ℕ → Bool → Line
-enrols none k t e = wrong 2
-enrols (some n) none t e = wrong 3
-enrols (some n) (some k) none e = wrong 4
-enrols (some n) (some k) (some t) false = wrong 5
-enrols (some n) (some k) (some t) true = call (enrol n k t)
+enrols None k t e = wrong 2
+enrols (Some n) None t e = wrong 3
+enrols (Some n) (Some k) None e = wrong 4
+enrols (Some n) (Some k) (Some t) false = wrong 5
+enrols (Some n) (Some k) (Some t) true = call (enrol n k t)
 
 abbrev pub feeds : Option ℕ → Option ℕ → Option (List ℕ) → Option ℕ → Bool → Line
-feeds none r b t e = wrong 2
-feeds (some l) none b t e = wrong 3
-feeds (some l) (some r) none t e = wrong 4
-feeds (some l) (some r) (some bs) none e = wrong 5
-feeds (some l) (some r) (some bs) (some t) false = wrong 6
-feeds (some l) (some r) (some bs) (some t) true = call (feed l r bs t)
+feeds None r b t e = wrong 2
+feeds (Some l) None b t e = wrong 3
+feeds (Some l) (Some r) None t e = wrong 4
+feeds (Some l) (Some r) (Some bs) None e = wrong 5
+feeds (Some l) (Some r) (Some bs) (Some t) false = wrong 6
+feeds (Some l) (Some r) (Some bs) (Some t) true = call (feed l r bs t)
 
 abbrev pub closes : Option ℕ → Bool → Line
-closes none e = wrong 2
-closes (some l) false = wrong 3
-closes (some l) true = call (close l)
+closes None e = wrong 2
+closes (Some l) false = wrong 3
+closes (Some l) true = call (close l)
 
 abbrev pub finishes : Option ℕ → Option ℕ → Bool → Line
-finishes none r e = wrong 2
-finishes (some s) none e = wrong 3
-finishes (some s) (some r) false = wrong 4
-finishes (some s) (some r) true = call (finish s r)
+finishes None r e = wrong 2
+finishes (Some s) None e = wrong 3
+finishes (Some s) (Some r) false = wrong 4
+finishes (Some s) (Some r) true = call (finish s r)
 
 abbrev pub alone : Call → Bool → Line
 alone c false = wrong 2

@@ -1,7 +1,7 @@
 -- The words of a line, one by one: where each starts and ends.
-use Rattle.std.specs.Prelude.{ℕ, suc, ◌+◌, ◌-◌, ◌≤◌, ◌<◌, ◌≡◌, refl, List, [], ◌∷◌, Bool, true, false, cond, length, get_or, take, drop, leb, eqb}
-use Rattle.std.proofs.Common.{sym, ap, ◌∙◌, add-zero, add-one, arith, length-drop, drop_of_length-le, drop-cons, drop-drop, leb-true, leb-false, le-leb}
-use Rattle.std.proofs.lemmas.Bool.{lt-leb}
+use Rattle.std.specs.Prelude.{ℕ, suc, ◌+◌, ◌-◌, ◌≤◌, ◌<◌, ◌≡◌, refl, List, [], ◌∷◌, Bool, true, false, cond, length, get_or, take, drop, leb, ltb, eqb}
+use Rattle.std.proofs.Common.{sym, ap, ◌∙◌, add-zero, add-one, arith, length-drop, drop_of_length-le, drop-cons, drop-drop, leb-true, leb-false, le-leb, ltb-true}
+use Rattle.std.proofs.lemmas.Bool.{lt-leb, ltb-false}
 use Rattle.script.specs.Script.{space, before, words, first, rest, ended}
 use Rattle.script.specs.Code.{word_length, word_end, words_from}
 
@@ -22,7 +22,7 @@ words-first (b ∷ bs) = go (eqb b space) (words-first bs)
     go true e = refl
     go false e = ap (before b) e
 
-length_word : (l : List ℕ) → word_length l ≤ length l
+pub length_word : (l : List ℕ) → word_length l ≤ length l
 unfolding word_length
 length_word [] = omega arith
 length_word (b ∷ bs) = go (eqb b space) (length_word bs)
@@ -59,7 +59,7 @@ end_behind l i h = omega arith
 pub end_part : (l : List ℕ) (i e : ℕ) → i ≤ length l → e ≡ word_end l i → (i ≤ e) × (e ≤ length l)
 end_part l i e h p = rw p (end_behind l i h, end_within l i)
 
-end_is : (l : List ℕ) (i : ℕ) → i ≤ length l → word_end l i ≡ i + word_length (drop i l)
+pub end_is : (l : List ℕ) (i : ℕ) → i ≤ length l → word_end l i ≡ i + word_length (drop i l)
 unfolding word_end
 end_is l i h = omega (arith, length_word (drop i l), length-drop i l)
 
@@ -113,6 +113,20 @@ ended_is l i h = ap ended (from-behind l i h)
 
 pub ended-not : (l : List ℕ) (i : ℕ) → i ≤ length l → ended (words_from l i) ≡ false
 ended-not l i h = ap ended (from_cut l i h)
+
+-- so where the next one would start says whether there is one
+pub ended_by : (l : List ℕ) (i : ℕ) → ltb (length l) i ≡ ended (words_from l i)
+ended_by l i = go (ltb (length l) i) refl
+  where
+    go : (t : Bool) → ltb (length l) i ≡ t → t ≡ ended (words_from l i)
+    go true e = sym (ended_is l i (ltb-true (length l) i e))
+    go false e = sym (ended-not l i (ltb-false (length l) i e))
+
+pub ended_behind : (l : List ℕ) (i : ℕ) → ended (words_from l i) ≡ true → length l < i
+ended_behind l i h = ltb-true (length l) i (ended_by l i ∙ h)
+
+pub ended_within : (l : List ℕ) (i : ℕ) → ended (words_from l i) ≡ false → i ≤ length l
+ended_within l i h = ltb-false (length l) i (ended_by l i ∙ h)
 
 -- the part of the line up to the word's end is that word
 pub word_part : (l : List ℕ) (i e : ℕ) → i ≤ length l → e ≡ word_end l i → take (e - i) (drop i l) ≡ first (words_from l i)

@@ -1,7 +1,10 @@
 // The script of `replay`: what a line of text is, its call and the bytes of its word.
 // Every answer is the definition's (specs/Script.antt, specs/Answers.antt); of a line that is not exactly right, the first word that cannot be taken is told.
-// It stands on bytes compared (`memory`), on the characters of `text`, and on the size of the node table.
+// It stands on the definitions of bytes compared and stored (`memory`), on the characters of `text`, and on the size of the node table.
 #![tactic(auto)]
+
+ghost use Rattle.std.specs.Prelude.{◌≤◌, length};
+ghost use Rattle.script.specs.Script.{longest};
 
 mod hex;
 mod numbers;
@@ -43,16 +46,10 @@ pub enum Call {
     Long,
 }
 
-// A number, where there is one.
+// The words of a line that are still to come: the next starts at `from`, and behind the line's end is none. The bytes of each fit where `parse` stores them.
 #[derive(Clone, Copy)]
-pub enum Number {
-    Value(usize),
-    Nothing,
-}
-
-// A word that is as it must be: its number, or how long it is, and where the next word starts.
-#[derive(Clone, Copy)]
-pub enum Taken {
-    Word { value: usize, next: usize },
-    Nothing,
+pub(crate) struct Words<'a> {
+    line: &'a [u8],
+    from: usize,
+    ghost short: { length line.now ≤ longest },
 }

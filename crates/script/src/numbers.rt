@@ -1,71 +1,47 @@
-// The numbers among the words of a script, and bytes in a range.
-// Every answer is the definition's: specs/Script.antt, specs/Code.antt.
+// The numbers among the words of a script.
+// Every answer is the definition's: specs/Script.antt.
 ghost use Rattle.std.specs.Prelude.{◌≤◌, ◌≡◌, length};
-ghost use Rattle.script.specs.Script.{digits_most, between, digits_from, is_plain, number_up_to};
-ghost use Rattle.script.specs.Code.{told};
-
-use crate::Number;
+ghost use Rattle.script.specs.Script.{digits_most, digits_from, is_plain, number_up_to};
 
 // No number has more digits.
 const DIGITS_MOST: usize = 5;
 
 // The number that a word is, up to the most that it may be.
-pub(crate) fn number_in(text: &[u8], most: usize) -> Number
-    ensures { told result ≡ number_up_to most text.now }
+pub(crate) fn number_in(text: &[u8], most: usize) -> Option<usize>
+    ensures { result ≡ number_up_to most text.now }
 {
     if !is_plain(text) {
-        return Number::Nothing;
+        return None;
     }
-    let Number::Value(value) = digits(text) else {
-        return Number::Nothing;
-    };
+    let value = digits(text)?;
     if most < value {
-        return Number::Nothing;
+        return None;
     }
-    Number::Value(value)
+    Some(value)
 }
 
 // One to five bytes, and no zero before others.
 fn is_plain(text: &[u8]) -> bool
     ensures { result ≡ is_plain text.now }
 {
-    let len = text.len();
-    if len == 0 {
-        return false;
+    match text.len() {
+        1 => true,
+        2..=DIGITS_MOST => text[0] != b'0',
+        _ => false,
     }
-    if DIGITS_MOST < len {
-        return false;
-    }
-    if len == 1 {
-        return true;
-    }
-    text[0] != b'0'
 }
 
 // The value of decimal digits.
-fn digits(text: &[u8]) -> Number
+fn digits(text: &[u8]) -> Option<usize>
     requires { length text.now ≤ digits_most }
-    ensures { told result ≡ digits_from 0 text.now }
+    ensures { result ≡ digits_from 0 text.now }
 {
     let mut value = 0;
-    let mut i = 0;
-    while i < text.len() {
-        let digit = text[i];
-        if !is_between(digit, b'0', b'9') {
-            return Number::Nothing;
+    for &digit in text {
+        if !digit.is_ascii_digit() {
+            return None;
         }
-        value = value * 10 + ((digit - b'0') as usize);
-        i += 1;
+        value = value * 10 + usize::from(digit - b'0');
     }
-    Number::Value(value)
-}
-
-// Whether a byte lies in a range, both ends included.
-pub(crate) fn is_between(b: u8, low: u8, high: u8) -> bool
-    ensures { result ≡ between low high b }
-{
-    if b < low {
-        return false;
-    }
-    b <= high
+    Some(value)
 }

@@ -1,11 +1,11 @@
 // What a line of a script is; the words of a call are taken left to right, and the first that cannot be is told.
 // The answer is the definition's: specs/Script.antt, specs/Answers.antt.
-ghost use Rattle.std.specs.Prelude.{◌/◌, ◌≤◌, ◌≡◌, length};
-ghost use Rattle.script.specs.Script.{ended, start_of, enrol_of, feed_of, close_of, finish_of, alone, show, table, called, is_remark, parse};
+ghost use Rattle.std.specs.Prelude.{◌==◌, position, ◌≡◌};
+ghost use Rattle.script.specs.Script.{space, ended, start_of, enrol_of, feed_of, close_of, finish_of, alone, show, table, call_of, is_remark, parse};
 ghost use Rattle.script.specs.Answers.{Tells, TellsAny};
-ghost use Rattle.script.specs.Code.{word_end, words_from, Numbered, TableAt, SessionAt, BytesAt};
+ghost use Rattle.script.specs.Code.{word_length, to_come, WordAt, Numbered, TableAt, SessionAt, BytesAt};
 
-use crate::{Call, Number, Taken};
+use crate::{Call, Words, hex, numbers};
 
 // No line has more bytes.
 pub const LONGEST: usize = 40000;
@@ -24,19 +24,19 @@ const BYTE_MOST: usize = 255;
 // TYPE.
 const PAIR_MOST: usize = 65535;
 
-const START: [u8; 5] = *b"start";
+const START: &[u8] = b"start";
 
-const ENROL: [u8; 5] = *b"enrol";
+const ENROL: &[u8] = b"enrol";
 
-const FEED: [u8; 4] = *b"feed";
+const FEED: &[u8] = b"feed";
 
-const CLOSE: [u8; 5] = *b"close";
+const CLOSE: &[u8] = b"close";
 
-const FINISH: [u8; 6] = *b"finish";
+const FINISH: &[u8] = b"finish";
 
-const SHOW: [u8; 4] = *b"show";
+const SHOW: &[u8] = b"show";
 
-const NODES: [u8; 5] = *b"table";
+const NODES: &[u8] = b"table";
 
 // What a line without its LF is. The bytes of its word are stored at the front of `bytes`, where those of any line fit.
 pub fn parse(line: &[u8], bytes: &mut [u8; DATA_MOST]) -> Call
@@ -48,295 +48,227 @@ pub fn parse(line: &[u8], bytes: &mut [u8; DATA_MOST]) -> Call
     if is_remark(line) {
         return Call::Remark;
     }
-    let end = word_end(line, 0);
-    called(&line[..end], line, end + 1, bytes)
+    called(Words { line, from: 0 }, bytes)
 }
 
 // An empty line, and one that begins with `#`.
 fn is_remark(line: &[u8]) -> bool
     ensures { result ≡ is_remark line.now }
 {
-    if line.len() == 0 {
-        return true;
-    }
-    line[0] == b'#'
+    line.is_empty() || line[0] == b'#'
 }
 
-// The call of a call word; the words behind it start at `from`.
-fn called(word: &[u8], line: &[u8], from: usize, bytes: &mut [u8]) -> Call
-    requires { length line.now / 2 ≤ length bytes.old }
-    ensures { Tells (called word.now (words_from line.now from)) bytes.new result }
+// The call of a line's words: the first says which it is.
+fn called(mut words: Words, bytes: &mut [u8; DATA_MOST]) -> Call
+    ensures { Tells (call_of (to_come words.entry)) bytes.new result }
 {
-    if memory::is_same(word, &START) {
-        return start(line, from, bytes);
+    let Some(word) = words.next_word() else {
+        return Call::Bad { word: 1 };
+    };
+    // Stays: a `match` on the seven words leaves a goal for each byte at which two of them part.
+    if word == START {
+        return start(words, bytes);
     }
-    if memory::is_same(word, &ENROL) {
-        return enrol(line, from);
+    if word == ENROL {
+        return enrol(words);
     }
-    if memory::is_same(word, &FEED) {
-        return feed(line, from, bytes);
+    if word == FEED {
+        return feed(words, bytes);
     }
-    if memory::is_same(word, &CLOSE) {
-        return close(line, from);
+    if word == CLOSE {
+        return close(words);
     }
-    if memory::is_same(word, &FINISH) {
-        return finish(line, from);
+    if word == FINISH {
+        return finish(words);
     }
-    if memory::is_same(word, &SHOW) {
-        return show(line, from);
+    if word == SHOW {
+        return show(words);
     }
-    if memory::is_same(word, &NODES) {
-        return nodes(line, from);
+    if word == NODES {
+        return nodes(words);
     }
     Call::Bad { word: 1 }
 }
 
 // "start BYTES [TABLE]".
-fn start(line: &[u8], from: usize, bytes: &mut [u8]) -> Call
-    requires { length line.now / 2 ≤ length bytes.old }
-    ensures { Tells (start_of (words_from line.now from)) bytes.new result }
+fn start(mut words: Words, bytes: &mut [u8; DATA_MOST]) -> Call
+    ensures { Tells (start_of (to_come words.entry)) bytes.new result }
 {
-    let Taken::Word {
-        value: len,
-        next: second,
-    } = bytes_at(line, from, bytes)
-    else {
+    let Some(len) = words.bytes(bytes) else {
         return Call::Bad { word: 2 };
     };
-    let Taken::Word {
-        value: table,
-        next: third,
-    } = table_at(line, second)
-    else {
+    let Some(table) = words.table() else {
         return Call::Bad { word: 3 };
     };
-    if third <= line.len() {
+    if !words.is_done() {
         return Call::Bad { word: 4 };
     }
-    Call::Start {
-        len: len,
-        table: table,
-    }
+    Call::Start { len, table }
 }
 
 // "enrol NODE TYPE [TABLE]".
-fn enrol(line: &[u8], from: usize) -> Call
-    ensures { TellsAny (enrol_of (words_from line.now from)) result }
+fn enrol(mut words: Words) -> Call
+    ensures { TellsAny (enrol_of (to_come words.entry)) result }
 {
-    let Taken::Word {
-        value: node,
-        next: second,
-    } = number_at(line, from, BYTE_MOST)
-    else {
+    let Some(node) = words.number(BYTE_MOST) else {
         return Call::Bad { word: 2 };
     };
-    let Taken::Word {
-        value: kind,
-        next: third,
-    } = number_at(line, second, PAIR_MOST)
-    else {
+    let Some(kind) = words.number(PAIR_MOST) else {
         return Call::Bad { word: 3 };
     };
-    let Taken::Word {
-        value: table,
-        next: fourth,
-    } = table_at(line, third)
-    else {
+    let Some(table) = words.table() else {
         return Call::Bad { word: 4 };
     };
-    if fourth <= line.len() {
+    if !words.is_done() {
         return Call::Bad { word: 5 };
     }
     Call::Enrol {
         node: node as u8,
         kind: kind as u16,
-        table: table,
+        table,
     }
 }
 
 // "feed LINE ROOM BYTES [TABLE]".
-fn feed(line: &[u8], from: usize, bytes: &mut [u8]) -> Call
-    requires { length line.now / 2 ≤ length bytes.old }
-    ensures { Tells (feed_of (words_from line.now from)) bytes.new result }
+fn feed(mut words: Words, bytes: &mut [u8; DATA_MOST]) -> Call
+    ensures { Tells (feed_of (to_come words.entry)) bytes.new result }
 {
-    let Taken::Word {
-        value: number,
-        next: second,
-    } = number_at(line, from, BYTE_MOST)
-    else {
+    let Some(line) = words.number(BYTE_MOST) else {
         return Call::Bad { word: 2 };
     };
-    let Taken::Word {
-        value: room,
-        next: third,
-    } = number_at(line, second, ROOM_MOST)
-    else {
+    let Some(room) = words.number(ROOM_MOST) else {
         return Call::Bad { word: 3 };
     };
-    let Taken::Word {
-        value: len,
-        next: fourth,
-    } = bytes_at(line, third, bytes)
-    else {
+    let Some(len) = words.bytes(bytes) else {
         return Call::Bad { word: 4 };
     };
-    let Taken::Word {
-        value: table,
-        next: fifth,
-    } = table_at(line, fourth)
-    else {
+    let Some(table) = words.table() else {
         return Call::Bad { word: 5 };
     };
-    if fifth <= line.len() {
+    if !words.is_done() {
         return Call::Bad { word: 6 };
     }
     Call::Feed {
-        line: number as u8,
-        room: room,
-        len: len,
-        table: table,
+        line: line as u8,
+        room,
+        len,
+        table,
     }
 }
 
 // "close LINE".
-fn close(line: &[u8], from: usize) -> Call
-    ensures { TellsAny (close_of (words_from line.now from)) result }
+fn close(mut words: Words) -> Call
+    ensures { TellsAny (close_of (to_come words.entry)) result }
 {
-    let Taken::Word {
-        value: number,
-        next: second,
-    } = number_at(line, from, BYTE_MOST)
-    else {
+    let Some(line) = words.number(BYTE_MOST) else {
         return Call::Bad { word: 2 };
     };
-    if second <= line.len() {
+    if !words.is_done() {
         return Call::Bad { word: 3 };
     }
-    Call::Close { line: number as u8 }
+    Call::Close { line: line as u8 }
 }
 
 // "finish SESSION ROOM".
-fn finish(line: &[u8], from: usize) -> Call
-    ensures { TellsAny (finish_of (words_from line.now from)) result }
+fn finish(mut words: Words) -> Call
+    ensures { TellsAny (finish_of (to_come words.entry)) result }
 {
-    let Taken::Word {
-        value: session,
-        next: second,
-    } = session_at(line, from)
-    else {
+    let Some(session) = words.session() else {
         return Call::Bad { word: 2 };
     };
-    let Taken::Word {
-        value: room,
-        next: third,
-    } = number_at(line, second, ROOM_MOST)
-    else {
+    let Some(room) = words.number(ROOM_MOST) else {
         return Call::Bad { word: 3 };
     };
-    if third <= line.len() {
+    if !words.is_done() {
         return Call::Bad { word: 4 };
     }
-    Call::Finish {
-        session: session as u16,
-        room: room,
-    }
+    Call::Finish { session, room }
 }
 
 // "show".
-fn show(line: &[u8], from: usize) -> Call
-    ensures { TellsAny (alone show (ended (words_from line.now from))) result }
+fn show(words: Words) -> Call
+    ensures { TellsAny (alone show (ended (to_come words.entry))) result }
 {
-    if from <= line.len() {
+    if !words.is_done() {
         return Call::Bad { word: 2 };
     }
     Call::Show
 }
 
 // "table".
-fn nodes(line: &[u8], from: usize) -> Call
-    ensures { TellsAny (alone table (ended (words_from line.now from))) result }
+fn nodes(words: Words) -> Call
+    ensures { TellsAny (alone table (ended (to_come words.entry))) result }
 {
-    if from <= line.len() {
+    if !words.is_done() {
         return Call::Bad { word: 2 };
     }
     Call::Table
 }
 
-// The number in the word at `from`.
-fn number_at(line: &[u8], from: usize, most: usize) -> Taken
-    ensures { Numbered line.now from most result }
-{
-    if line.len() < from {
-        return Taken::Nothing;
+// Each method but `is_done` takes one word.
+impl<'a> Words<'a> {
+    // No word is left.
+    fn is_done(&self) -> bool
+        ensures { result ≡ ended (to_come self.now) }
+    {
+        self.line.len() < self.from
     }
-    let end = word_end(line, from);
-    let Number::Value(value) = crate::numbers::number_in(&line[from..end], most) else {
-        return Taken::Nothing;
-    };
-    Taken::Word {
-        value: value,
-        next: end + 1,
-    }
-}
 
-// The session in the word at `from`.
-fn session_at(line: &[u8], from: usize) -> Taken
-    ensures { SessionAt line.now from result }
-{
-    if line.len() < from {
-        return Taken::Nothing;
+    // The word up to the next space, or to the line's end.
+    fn next_word(&mut self) -> Option<&'a [u8]>
+        ensures { WordAt self.old self.new result }
+    {
+        let text = self.line.get(self.from..)?;
+        let end = word_length(text);
+        self.from += end + 1;
+        Some(&text[..end])
     }
-    let end = word_end(line, from);
-    let Number::Value(value) = crate::hex::session(&line[from..end]) else {
-        return Taken::Nothing;
-    };
-    Taken::Word {
-        value: value,
-        next: end + 1,
-    }
-}
 
-// The bytes of the word at `from`, stored at the front of `out`.
-fn bytes_at(line: &[u8], from: usize, out: &mut [u8]) -> Taken
-    requires { length line.now / 2 ≤ length out.old }
-    ensures { BytesAt line.now from out.new result }
-{
-    if line.len() < from {
-        return Taken::Nothing;
+    // The next word as a number.
+    fn number(&mut self, most: usize) -> Option<usize>
+        ensures { Numbered most (to_come self.old) (to_come self.new) result }
+    {
+        let word = self.next_word()?;
+        numbers::number_in(word, most)
     }
-    let end = word_end(line, from);
-    let Number::Value(value) = crate::hex::decode(&line[from..end], out) else {
-        return Taken::Nothing;
-    };
-    Taken::Word {
-        value: value,
-        next: end + 1,
-    }
-}
 
-// TABLE in the word at `from`, or what is lent without it.
-fn table_at(line: &[u8], from: usize) -> Taken
-    ensures { TableAt line.now from result }
-{
-    if line.len() < from {
-        return Taken::Word {
-            value: nodes::TABLE,
-            next: from,
-        };
+    // The next word as a session.
+    fn session(&mut self) -> Option<u16>
+        ensures { SessionAt (to_come self.old) (to_come self.new) result }
+    {
+        let word = self.next_word()?;
+        hex::session(word)
     }
-    number_at(line, from, TABLE_MOST)
-}
 
-// Where the word ends that starts at `from`: at the next space, or with the line.
-fn word_end(line: &[u8], from: usize) -> usize
-    ensures { result ≡ word_end line.now from }
-{
-    let mut i = from;
-    while i < line.len() {
-        if line[i] == b' ' {
-            return i;
+    // The bytes of the next word, to the front of `out`; answers how many.
+    fn bytes(&mut self, out: &mut [u8; DATA_MOST]) -> Option<usize>
+        ensures { BytesAt (to_come self.old) out.new (to_come self.new) result }
+    {
+        let word = self.next_word()?;
+        hex::decode(word, out)
+    }
+
+    // TABLE, or what is lent without it.
+    fn table(&mut self) -> Option<usize>
+        ensures { TableAt (to_come self.old) (to_come self.new) result }
+    {
+        if self.is_done() {
+            return Some(nodes::TABLE);
         }
-        i += 1;
+        self.number(TABLE_MOST)
     }
-    line.len()
+}
+
+// How many bytes stand before the first space.
+fn word_length(text: &[u8]) -> usize
+    ensures { result ≡ word_length text.now }
+{
+    first_space(text).unwrap_or(text.len())
+}
+
+// Where the first space stands.
+fn first_space(text: &[u8]) -> Option<usize>
+    ensures { result ≡ position (λ b. b == space) text.now }
+{
+    text.iter().position(|b| *b == b' ')
 }

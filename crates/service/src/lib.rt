@@ -9,7 +9,7 @@ mod records;
 pub use calls::{close, enrol, feed, finish, start};
 use line::Reading;
 pub use records::{record_of, with_record};
-use rules::{CallAnswer, FeedAnswer, FinishAnswer, Hub, LINES};
+use rules::{CallRefusal, Hub, LINES};
 
 // What is kept between calls beside the table.
 #[derive(Clone, Copy)]
@@ -18,29 +18,17 @@ pub struct Kept {
     pub records: [Reading; LINES],
 }
 
-// What each call gives: its answer, the record that it was lent, and what is kept then.
+// What a call gives: its answer, and what is kept then.
 #[derive(Clone, Copy)]
-pub struct StartMade {
-    pub answer: CallAnswer,
+pub struct CallMade<T> {
+    pub answer: Result<T, CallRefusal>,
     pub kept: Kept,
 }
 
+// The same of a call on a line, with the record that it was lent.
 #[derive(Clone, Copy)]
-pub struct CloseMade {
-    pub answer: CallAnswer,
-    pub reading: Reading,
-    pub kept: Kept,
-}
-
-#[derive(Clone, Copy)]
-pub struct FinishMade {
-    pub answer: FinishAnswer,
-    pub kept: Kept,
-}
-
-#[derive(Clone, Copy)]
-pub struct FeedMade {
-    pub answer: FeedAnswer,
+pub struct LineCallMade<T> {
+    pub answer: Result<T, CallRefusal>,
     pub reading: Reading,
     pub kept: Kept,
 }

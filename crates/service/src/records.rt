@@ -9,22 +9,20 @@ use rules::LINES;
 pub fn record_of(records: [Reading; LINES], line: u8) -> Reading
     ensures { result ≡ get_or records line emptied_reading }
 {
-    let k = line as usize;
-    if LINES <= k {
-        return frame::emptied();
+    match records.get(usize::from(line)) {
+        Some(record) => *record,
+        None => frame::emptied(),
     }
-    records[k]
 }
 
 // The records with the one that was lent.
-pub fn with_record(records: [Reading; LINES], line: u8, reading: Reading) -> [Reading; LINES]
+// Stays: a test and an index; of `get_mut` the goal stayed open that the record is written back into the array.
+pub fn with_record(mut records: [Reading; LINES], line: u8, reading: Reading) -> [Reading; LINES]
     ensures { result ≡ set records line reading }
 {
-    let place = line as usize;
-    if LINES <= place {
-        return records;
+    let place = usize::from(line);
+    if place < LINES {
+        records[place] = reading;
     }
-    let mut out = records;
-    out[place] = reading;
-    out
+    records
 }

@@ -1,5 +1,5 @@
 -- Searching a list.
-use Rattle.std.specs.Prelude.{ℕ, zero, suc, List, [], ◌∷◌, ◌++◌, Bool, true, false, cond, eqb}
+use Rattle.std.specs.Prelude.{◌≡◌, ℕ, zero, suc, List, [], ◌∷◌, ◌++◌, Bool, true, false, cond, eqb}
 
 module _ {A : Type 0} (p : A → Bool) where
   -- some element passes the test
@@ -11,6 +11,10 @@ module _ {A : Type 0} (p : A → Bool) where
   unfoldable pub first : List A → ℕ
   first [] = 0
   first (a ∷ l) = cond (p a) 0 (suc (first l))
+
+-- what a test of the code gives is what p computes
+abbrev pub Computes : {A : Type 0} → (A → Bool → Type 0) → (A → Bool) → Type 0
+Computes {A} gives p = (a : A) (r : Bool) → gives a r → r ≡ p a
 
 -- a number stands in a list
 abbrev pub member : ℕ → List ℕ → Bool

@@ -1,13 +1,13 @@
 -- Mode send, finish, close a line and remove nodes, computed: nodes 0 to 19 are in use, and session 1 on line 0 holds node 5; and the
 -- definitions' numbers at their edges.
-use Rattle.std.specs.Prelude.{ℕ, ◌-◌, ◌*◌, ◌≡◌, refl, List, [], ◌∷◌, ◌++◌, map, Bool, true, false, length, drop, replicate}
+use Rattle.std.specs.Prelude.{ℕ, ◌-◌, ◌*◌, ◌≡◌, refl, List, [], ◌∷◌, ◌++◌, map, Bool, true, false, None, Some, length, drop, replicate}
 use Rattle.std.proofs.Math.Option.{none, some}
 use Rattle.nodes.specs.Table.{in_use, bit}
 use Rattle.sessions.specs.declared.Slot.{Slot}
 use Rattle.sessions.specs.declared.ModeSend.{ModeSend}
-use Rattle.sessions.specs.declared.Owner.TheVariants.{Line, NotOpen}
+use Rattle.sessions.specs.declared.ModeSendStatus.TheVariants.{Accepted, Rejected, SessionInUse, NoFreeSlot, IllegalParameter}
 use Rattle.sessions.specs.Search.{any, first, below}
-use Rattle.sessions.specs.Sessions.{slot_count, target_count, mark_bytes, slot_size, sessions_size, marks_at, slots_of, slot_bytes, with_slot, closed_slot, is_free, is_numbered, is_on, holds, holders, close_one, close_below, close_all, close_line, holds_removed, close_removed, mode_send_size, max_indices, mode_send_of, targets_legal, is_legal, with_bit, marked, session_slot, mode_send_status, mode_send, finish, refused, on_line, told, told_by}
+use Rattle.sessions.specs.Sessions.{slot_count, target_count, mark_bytes, slot_size, sessions_size, marks_at, slots_of, slot_bytes, with_slot, closed_slot, is_free, is_numbered, is_on, holds, holders, close_one, close_below, close_all, close_line, holds_removed, close_removed, mode_send_size, max_indices, mode_send_of, targets_legal, is_legal, with_bit, marked, session_slot, mode_send_status, mode_send, finish, refused, on_line, told, status_number, told_by}
 
 unfoldable nodes : List ℕ
 nodes = replicate (20 * 72) 1
@@ -182,8 +182,12 @@ removed_last = refl
 tells : told (some (record { line = 3; slots = [] })) ∷ told none ∷ [] ≡ on_line 3 ∷ refused 13 ∷ []
 tells = refl
 
-answers : map told_by (Line 3 ∷ NotOpen ∷ []) ≡ on_line 3 ∷ refused 13 ∷ []
+answers : map told_by (Some 3 ∷ None ∷ []) ≡ on_line 3 ∷ refused 13 ∷ []
 answers = refl
+
+-- the code's statuses by their numbers
+status_numbers : map status_number (Accepted ∷ Rejected ∷ SessionInUse ∷ NoFreeSlot ∷ IllegalParameter ∷ []) ≡ 0 ∷ 1 ∷ 3 ∷ 4 ∷ 5 ∷ []
+status_numbers = refl
 
 -- the data bytes 0 to 30
 read : mode_send_of (below 31) ≡ record { session = 1; originator = 2; priority = 3; count = 6; indices = drop 7 (below 27); lock = 27 }

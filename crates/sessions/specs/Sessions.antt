@@ -1,13 +1,14 @@
 -- The sessions (document 01, mode send and the host calls): who holds which motor.
 use Rattle.std.specs.Prelude.{ℕ, zero, suc, ◌+◌, ◌*◌, ◌/◌, ◌%◌, ◌^◌, List, [], ◌∷◌, map, Bool, true, cond, not, ◌&&◌, length, take, drop, set, get_or, replicate, leb, ltb, eqb}
+use Rattle.std.specs.Prelude.{Option as Answer, None, Some}
 use Rattle.std.proofs.Math.Option.{Option, none, some}
 use Rattle.std.proofs.lemmas.List.Edits.{sets}
 use Rattle.std.specs.Int.Bits.{bit_or}
 use Rattle.nodes.specs.Table.{in_use, bit, is_removed, node_count}
 use Rattle.sessions.specs.declared.Slot.{Slot}
 use Rattle.sessions.specs.declared.ModeSend.{ModeSend}
-use Rattle.sessions.specs.declared.Owner.{Owner}
-use Rattle.sessions.specs.declared.Owner.TheVariants.{Line, NotOpen}
+use Rattle.sessions.specs.declared.ModeSendStatus.{ModeSendStatus}
+use Rattle.sessions.specs.declared.ModeSendStatus.TheVariants.{Accepted, Rejected, SessionInUse, NoFreeSlot, IllegalParameter}
 use Rattle.sessions.specs.Search.{any, first, member, below}
 
 -- ---- the session table
@@ -156,6 +157,14 @@ no_free_slot = 4
 abbrev pub illegal_parameter : ℕ
 illegal_parameter = 5
 
+-- a status of the code by its number
+abbrev pub status_number : ModeSendStatus → ℕ
+status_number Accepted = accepted
+status_number Rejected = rejected
+status_number SessionInUse = session_in_use
+status_number NoFreeSlot = no_free_slot
+status_number IllegalParameter = illegal_parameter
+
 -- no index is above 199, not in use, or named twice; those in `seen` are named already
 unfoldable pub targets_legal : List ℕ → List ℕ → List ℕ → Bool
 targets_legal t seen [] = true
@@ -253,7 +262,7 @@ abbrev pub told : Option Finished → Told
 told none = refused not_open
 told (some f) = on_line f.line
 
--- the same of an answer
-abbrev pub told_by : Owner → Told
-told_by NotOpen = refused not_open
-told_by (Line l) = on_line l
+-- the same of an answer: the line, if there is one
+abbrev pub told_by : Answer ℕ → Told
+told_by None = refused not_open
+told_by (Some l) = on_line l

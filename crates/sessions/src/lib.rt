@@ -3,6 +3,9 @@
 // It stands on `nodes` (which nodes are in use, which are removed) and `memory`.
 #![tactic(auto)]
 
+ghost use Rattle.std.specs.Prelude.{◌≡◌};
+ghost use Rattle.sessions.specs.Sessions.{status_number};
+
 mod closing;
 mod finishing;
 mod opening;
@@ -26,6 +29,7 @@ pub const TARGETS: usize = 200;
 pub const MARKS: usize = 25;
 
 // The bytes of a slot: in use, line, number, and its nodes' bits; and those of the session table, all slots.
+// Stays: the table is bytes and not an array of `Slot`: tried and slower (docs/DECISIONS.md, "The sessions lie in the hub as bytes").
 pub const SLOT: usize = HEAD + MARKS;
 
 pub const TABLE: usize = SLOTS * SLOT;
@@ -42,19 +46,36 @@ pub const MAX_PRIORITY: u8 = 7;
 
 pub const MAX_LOCK: u8 = 1;
 
-// The statuses of a mode send.
-pub const ACCEPTED: u8 = 0;
+// The status of a mode send.
+#[derive(Clone, Copy, PartialEq, Eq, Debug)]
+pub enum ModeSendStatus {
+    Accepted,
+    Rejected,
+    SessionInUse,
+    NoFreeSlot,
+    IllegalParameter,
+}
 
-pub const REJECTED: u8 = 1;
+// Its number.
+impl From<ModeSendStatus> for u8 {
+    ghost from_gives = { λ s n. n ≡ status_number s };
 
-pub const SESSION_IN_USE: u8 = 3;
-
-pub const NO_FREE_SLOT: u8 = 4;
-
-pub const ILLEGAL_PARAMETER: u8 = 5;
+    fn from(status: ModeSendStatus) -> u8
+        ensures { result ≡ status_number status }
+    {
+        match status {
+            ModeSendStatus::Accepted => 0,
+            ModeSendStatus::Rejected => 1,
+            ModeSendStatus::SessionInUse => 3,
+            ModeSendStatus::NoFreeSlot => 4,
+            ModeSendStatus::IllegalParameter => 5,
+        }
+    }
+}
 
 // What a slot says: a session's line, its number and a bit for each of its nodes, least significant first.
 // The slot is in use exactly if `used` is 1; what another holds counts for nothing.
+// Stays: `used` is a byte, since a table that is lent may have any byte there, and `slot_at` promises to give it (specs/Sessions.antt: slot_from).
 #[derive(Clone, Copy)]
 pub struct Slot {
     pub used: u8,
@@ -64,6 +85,7 @@ pub struct Slot {
 }
 
 // What a mode send asks for: the first `count` of its indices name its nodes.
+// Stays: the count stands beside the indices, since it is judged as it was sent, 0 or above 20 too (specs/Sessions.antt: is_legal, status 5).
 #[derive(Clone, Copy)]
 pub struct ModeSend {
     pub session: u16,
@@ -72,11 +94,4 @@ pub struct ModeSend {
     pub count: u8,
     pub indices: [u8; INDICES],
     pub lock: u8,
-}
-
-// Whose a session is: its line, or that its number is not open.
-#[derive(Clone, Copy)]
-pub enum Owner {
-    Line(u8),
-    NotOpen,
 }

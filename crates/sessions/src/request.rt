@@ -3,25 +3,20 @@
 ghost use Rattle.std.specs.Prelude.{◌≡◌};
 ghost use Rattle.sessions.specs.Sessions.{mode_send_of};
 
-use crate::ModeSend;
+use crate::{INDICES, MODE_SEND, ModeSend};
 
 // The data of a mode send.
-pub fn mode_send_of(payload: [u8; crate::MODE_SEND]) -> ModeSend
+pub fn mode_send_of(payload: [u8; MODE_SEND]) -> ModeSend
     ensures { result ≡ mode_send_of payload }
 {
-    let session = (memory::byte(&payload, 0) as u16) * 256 + (memory::byte(&payload, 1) as u16);
-    let originator = payload[2];
-    let priority = payload[3];
-    let count = payload[6];
-    let mut indices = [0; crate::INDICES];
-    memory::copy(&mut indices, 0, &payload[7..7 + crate::INDICES]);
-    let lock = payload[27];
+    let mut indices = [0; INDICES];
+    indices.copy_from_slice(&payload[7..7 + INDICES]);
     ModeSend {
-        session,
-        originator,
-        priority,
-        count,
+        session: u16::from_be_bytes([payload[0], payload[1]]),
+        originator: payload[2],
+        priority: payload[3],
+        count: payload[6],
         indices,
-        lock,
+        lock: payload[27],
     }
 }

@@ -45,6 +45,10 @@ built_part {size} {m} {a} {xs} b =
     let z : a - 0 ≡ a = omega arith in
     rw z (ap (take a) (front_to b.wrote w) ∙ take_at xs (drop a b.before) a (sym e))
 
+-- so is what stands before the page's place
+pub built_text : {size : ℕ} {m : List ℕ} {a : ℕ} {xs : List ℕ} → Built size size xs m a → take a m ≡ xs
+built_text {size} {m} {a} {xs} b = let z : a - 0 ≡ a = omega arith in rw z at (built_part b)
+
 -- room is left for k bytes more
 pub built_room : {size most : ℕ} {m : List ℕ} {a : ℕ} {xs : List ℕ} (k : ℕ) → Built size most xs m a → most + k ≤ size → a + k ≤ length m
 built_room k b h = omega (arith, b.wrote.place, b.within, b.long, kept b.wrote)

@@ -8,7 +8,7 @@ ten_at : (n : ℕ) (t : Bool) → ltb n 10 ≡ t → (n < 10) ⊎ (10 ≤ n)
 ten_at n true e = inl (ltb-true n 10 e)
 ten_at n false e = inr (ltb-false n 10 e)
 
-ten : (n : ℕ) → (n < 10) ⊎ (10 ≤ n)
+pub ten : (n : ℕ) → (n < 10) ⊎ (10 ≤ n)
 ten n = ten_at n (ltb n 10) refl
 
 -- ---- more steps than enough change nothing

@@ -1,5 +1,6 @@
 pub mod Text
 pub mod Appended
+pub mod Page
 pub mod DecimalLaws
 pub mod TextVectors
 pub mod AppendedLaws

@@ -1,45 +1,39 @@
-// Numbers as the programs write them, in base ten and in four hexadecimal digits, appended to lent memory at a place.
-// A number is written whole or not at all, and is the definition's to the byte: specs/Text.antt, specs/Appended.antt.
+// Numbers as the programs write them, in base ten and in four hexadecimal digits, appended to a page.
+// A number is written whole or not at all, and is the definition's to the byte: specs/Text.antt, specs/Page.antt.
 ghost use Rattle.std.specs.Prelude.{◌+◌, ◌%◌, ◌≤◌, ◌≡◌, length};
 ghost use Rattle.memory.specs.Wrote.{Wrote};
 ghost use Rattle.text.specs.Text.{digit, decimal, hex4};
-ghost use Rattle.text.specs.Appended.{appended, Leaves};
+ghost use Rattle.text.specs.Page.{Writes};
 
-// A number in base ten.
-pub fn append_decimal(out: &mut [u8], at: usize, number: u64) -> usize
-    ensures { Leaves (appended out.old at (decimal number)) out.new result }
-{
-    let count = width(number);
-    if crate::words::room(out.len(), at) < count {
-        return at;
+use crate::page::Page;
+
+impl Page<'_> {
+    // A number in base ten.
+    pub fn append_decimal(&mut self, number: u64)
+        ensures { Writes (decimal number) self.old self.new }
+    {
+        let count = width(number);
+        if self.room() < count {
+            return;
+        }
+        self.at = decimal(self.out, self.at, count, number);
     }
-    decimal(out, at, count, number)
+
+    // The four hexadecimal digits of a number.
+    pub fn append_hex4(&mut self, number: u16)
+        ensures { Writes (hex4 number) self.old self.new }
+    {
+        let n = u64::from(number);
+        let digits = [digit(n / 4096), digit(n / 256), digit(n / 16), digit(n)];
+        self.append(&digits);
+    }
 }
 
-// The four hexadecimal digits of a number.
-pub fn append_hex4(out: &mut [u8], at: usize, number: u16) -> usize
-    ensures { Leaves (appended out.old at (hex4 number)) out.new result }
-{
-    if crate::words::room(out.len(), at) < 4 {
-        return at;
-    }
-    hex4(out, at, number)
-}
-
-// How many decimal digits a number has: u64 holds no more than 20.
+// How many decimal digits a number has; 0 has one.
 pub fn width(number: u64) -> usize
     ensures { result ≡ length (decimal number) }
 {
-    let mut count = 1;
-    let mut bound: u64 = 10;
-    while bound <= number {
-        count += 1;
-        if count == 20 {
-            return count;
-        }
-        bound *= 10;
-    }
-    count
+    number.max(1).ilog10() as usize + 1
 }
 
 // The last hexadecimal digit of a number: 0 to 9, then A to F.
@@ -59,26 +53,10 @@ fn decimal(out: &mut [u8], at: usize, count: usize, number: u64) -> usize
     ensures { Wrote out.old at (decimal number) out.new result }
 {
     let end = at + count;
-    let mut place = end - 1;
     let mut rest = number;
-    while 10 <= rest {
+    for place in (at..end).rev() {
         out[place] = digit(rest % 10);
         rest /= 10;
-        place -= 1;
     }
-    out[place] = digit(rest);
     end
-}
-
-// The four hexadecimal digits of `number`.
-fn hex4(out: &mut [u8], at: usize, number: u16) -> usize
-    requires { at + 4 ≤ length out.old }
-    ensures { Wrote out.old at (hex4 number) out.new result }
-{
-    let n = number as u64;
-    out[at] = digit(n / 4096);
-    out[at + 1] = digit(n / 256);
-    out[at + 2] = digit(n / 16);
-    out[at + 3] = digit(n);
-    at + 4
 }

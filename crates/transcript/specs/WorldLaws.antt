@@ -1,5 +1,5 @@
 -- The lines that the calls' answers and the room are written as are those of the definitions' answers: a reply is what is told, and nothing spills.
-use Rattle.std.specs.Prelude.{ℕ, zero, suc, ◌≡◌, Bool, true, false, cond, ltb, eqb, replicate}
+use Rattle.std.specs.Prelude.{ℕ, zero, suc, ◌≡◌, Bool, true, false, cond, ltb, eqb, replicate, Ok, Err}
 use Rattle.std.proofs.Math.Path.{refl, ap}
 use Rattle.std.proofs.Common.{sym, ◌∙◌, true≢false, arith, length-take, length-drop, eq-eqb}
 use mathlib.Core.List.{List, [], ◌∷◌, ◌++◌}
@@ -18,13 +18,7 @@ use Rattle.rules.specs.declared.Hub.{Hub}
 use Rattle.rules.specs.Hub as rules
 use Rattle.rules.specs.Promises.{Finishes}
 use Rattle.rules.proofs.RefusalLaws.{finish_refused}
-use Rattle.rules.specs.declared.CallAnswer.{CallAnswer}
-use Rattle.rules.specs.declared.CallAnswer.TheVariants as call
-use Rattle.rules.specs.declared.FinishAnswer.{FinishAnswer}
-use Rattle.rules.specs.declared.FinishAnswer.TheVariants as finish
-use Rattle.rules.specs.declared.FeedAnswer.{FeedAnswer}
-use Rattle.rules.specs.declared.FeedAnswer.TheVariants as feed
-use Rattle.rules.specs.Answers.{number, refusal_of, answer_of}
+use Rattle.rules.specs.Answers.{CallAnswer, FinishAnswer, FeedAnswer, number, refusal_of, answer_of}
 use Rattle.rules.specs.Promises.{Feeds}
 use Rattle.rules.proofs.PromiseLaws.{feeds_promise}
 use Rattle.report.specs.Report.{frame_line, has_other, has_spilled}
@@ -56,8 +50,8 @@ other_none f (suc n) = rw (eq-eqb f f refl) (other_none f n)
 
 pub call-told : (a : CallAnswer) → call_line a ≡ call_told (refusal_of a)
 unfolding call_line call_told
-call-told call.Done = refl
-call-told (call.Refused r) = refl
+call-told (Ok done) = refl
+call-told (Err r) = refl
 
 -- ---- calls with room: `part` is lent, all filler
 
@@ -90,25 +84,25 @@ module _ (part : List ℕ) (p : has_other filler part ≡ false) where
   pub finish-told : (h : Hub) (x : ℕ) (a : FinishAnswer) (g : Hub) (left : List ℕ) → Finishes h x part a g left
       → finish_line a left ≡ finish_told (rules.finish h x (length part)).answer (rules.finish h x (length part)).reply
   unfolding finish_line finish_told refusal_line
-  finish-told h x (finish.Refused r) g left w =
+  finish-told h x (Err r) g left w =
       let f = finish_refused h x (length part) (number r) (sym w.answer) in
       let room : left ≡ part = w.room ∙ ap (λ (z : rules.Finished). z.reply ++ drop (length z.reply) part) f in
       rw (f, none_spilled [] left 0 refl room)
-  finish-told h x (finish.Finished l k) g left w =
+  finish-told h x (Ok n) g left w =
       let F = rules.finish h x (length part) in
-      let size = finish-length h x (length part) l k (sym w.answer) in
-      let told : take k left ≡ F.reply = ap (take k) w.room ∙ take_at F.reply (drop (length F.reply) part) k (sym size) in
-      rw (none_spilled F.reply left k size w.room, told, ← w.answer)
+      let size = finish-length h x (length part) n.line n.len (sym w.answer) in
+      let told : take n.len left ≡ F.reply = ap (take n.len) w.room ∙ take_at F.reply (drop (length F.reply) part) n.len (sym size) in
+      rw (none_spilled F.reply left n.len size w.room, told, ← w.answer)
 
   pub feed-told : (h : Hub) (t : List ℕ) (r : Reading) (l : ℕ) (bytes : List ℕ) (a : FeedAnswer) (g : Hub) (e : Reading) (t' left : List ℕ)
       → Feeds h t r l bytes part a g t' e left
       → feed_line a left ≡ feed_told (answer_of a e.bytes) (take (length_of (answer_of a e.bytes)) left)
   unfolding feed_line feed_told refusal_line length_of
-  feed-told h t r l bytes (feed.Refused why) g e t' left w =
+  feed-told h t r l bytes (Err why) g e t' left w =
       let room : left ≡ part = (refused_untouched (feeds_promise w) (number why) refl).3 in
       rw (none_spilled [] left 0 refl room)
-  feed-told h t r l bytes (feed.Told u o k) g e t' left w =
+  feed-told h t r l bytes (Ok x) g e t' left w =
       let c = called rules.hub h t r l bytes part in
-      let size : k ≡ length c.result.reply = ap length_of w.answer ∙ call_length rules.hub h t _ l bytes (length part) in
-      rw (none_spilled c.result.reply left k size w.room)
-      (outcome-told u o e.bytes (take k left) w.bounded.0.0 w.bounded.1)
+      let size : x.len ≡ length c.result.reply = ap length_of w.answer ∙ call_length rules.hub h t _ l bytes (length part) in
+      rw (none_spilled c.result.reply left x.len size w.room)
+      (outcome-told x.used x.outcome e.bytes (take x.len left) w.bounded.0.0 w.bounded.1)

@@ -5,6 +5,7 @@
 
 mod answers;
 mod listing;
+mod records;
 mod state;
 mod world;
 

@@ -1,36 +1,28 @@
-// The state as `show` writes it: lines of text, appended one behind the other to lent memory at a place.
+// The state as `show` writes it: lines of text, appended one behind the other to a page.
 // Each is written whole or not at all, and they are the definition's to the byte: specs/State.antt.
 ghost use Rattle.std.specs.Prelude.{◌<◌, ◌≡◌, map, get_or};
-ghost use Rattle.text.specs.Appended.{Leaves};
 ghost use Rattle.frame.specs.Reader.{emptied, taken};
 ghost use Rattle.nodes.specs.Table.{node_count};
 ghost use Rattle.sessions.specs.Sessions.{slot_count, slot_at};
 ghost use Rattle.rules.specs.Hub.{line_count, is_listed};
-ghost use Rattle.transcript.specs.Lines.{appended_all, lines_below};
+ghost use Rattle.transcript.specs.Lines.{WritesAll, lines_below};
 ghost use Rattle.transcript.specs.State.{lines, slot_lines, record_lines, node_lines, reading_lines, state_lines};
 
+use crate::records::fields_of;
 use line::Reading;
 use rules::{Hub, LINES};
 use sessions::{SLOTS, Slot};
+use text::Page;
 
 // The logins, the open slots, the nodes, the reading records and the end.
-pub(crate) fn show(
-    out: &mut [u8],
-    at: usize,
-    hub: Hub,
-    table: &[u8],
-    readings: [Reading; LINES],
-) -> usize
-    ensures { Leaves (appended_all out.old at (state_lines hub table.now (map taken readings))) out.new result }
+pub(crate) fn show(page: &mut Page, hub: Hub, table: &[u8], readings: [Reading; LINES])
+    ensures { WritesAll (state_lines hub table.now (map taken readings)) page.old page.new }
 {
-    let known = hub.logins;
-    let logins = logged_in(known);
-    let slots = hub.slots;
-    let first_slot = report::login_line(out, at, logins);
-    let first_node = show_slots(out, first_slot, &slots);
-    let first_reading = show_nodes(out, first_node, table);
-    let last = show_readings(out, first_reading, readings);
-    text::append(out, last, &report::END_LINE)
+    report::login_line(page, logged_in(hub.logins));
+    show_slots(page, &hub.slots);
+    show_nodes(page, table);
+    show_readings(page, readings);
+    page.append(report::END_LINE);
 }
 
 // Which lines are logged in.
@@ -45,85 +37,62 @@ fn logged_in(logins: [u8; LINES]) -> [bool; LINES]
     ]
 }
 
-fn show_slots(out: &mut [u8], at: usize, slots: &[u8; sessions::TABLE]) -> usize
-    ensures { Leaves (appended_all out.old at (lines_below (λ k. slot_lines k (slot_at slots.now k)) slot_count)) out.new result }
+fn show_slots(page: &mut Page, slots: &[u8; sessions::TABLE])
+    ensures { WritesAll (lines_below (λ k. slot_lines k (slot_at slots.now k)) slot_count) page.old page.new }
 {
-    let mut end = at;
-    let mut k = 0;
-    while k < SLOTS {
-        end = show_slot(out, end, k as u8, sessions::slot_at(slots, k));
-        k += 1;
+    for k in 0..SLOTS {
+        show_slot(page, k as u8, sessions::slot_at(slots, k));
     }
-    end
 }
 
 // A slot that is not open is not shown.
-fn show_slot(out: &mut [u8], at: usize, k: u8, slot: Slot) -> usize
-    ensures { Leaves (appended_all out.old at (slot_lines k slot)) out.new result }
+fn show_slot(page: &mut Page, k: u8, slot: Slot)
+    ensures { WritesAll (slot_lines k slot) page.old page.new }
 {
-    if !sessions::is_open(slot) {
-        return at;
+    if sessions::is_open(slot) {
+        report::slot_line(page, k, slot.number, slot.line, slot.nodes);
     }
-    let number = slot.number;
-    let line = slot.line;
-    let nodes = slot.nodes;
-    report::slot_line(out, at, k, number, line, nodes)
 }
 
-fn show_nodes(out: &mut [u8], at: usize, table: &[u8]) -> usize
-    ensures { Leaves (appended_all out.old at (lines_below (node_lines table.now) node_count)) out.new result }
+fn show_nodes(page: &mut Page, table: &[u8])
+    ensures { WritesAll (lines_below (node_lines table.now) node_count) page.old page.new }
 {
-    let mut end = at;
-    let mut node = 0;
-    while node < nodes::NODES {
-        end = show_node(out, end, table, node);
-        node += 1;
+    for node in 0..nodes::NODES {
+        show_node(page, table, node);
     }
-    end
 }
 
 // A record that does not lie within the table is not shown.
-fn show_node(out: &mut [u8], at: usize, table: &[u8], node: usize) -> usize
+fn show_node(page: &mut Page, table: &[u8], node: usize)
     requires { node < node_count }
-    ensures { Leaves (appended_all out.old at (node_lines table.now node)) out.new result }
+    ensures { WritesAll (node_lines table.now node) page.old page.new }
 {
-    let start = node * nodes::RECORD;
-    let end = start + nodes::RECORD;
-    if table.len() < end {
-        return at;
+    if let Some(fields) = fields_of(table, node) {
+        show_record(page, node as u8, fields);
     }
-    show_record(out, at, node as u8, &table[start..end])
 }
 
 // A record that is all zero is not shown.
-fn show_record(out: &mut [u8], at: usize, node: u8, fields: &[u8]) -> usize
-    ensures { Leaves (appended_all out.old at (record_lines node fields.now)) out.new result }
+fn show_record(page: &mut Page, node: u8, fields: &[u8])
+    ensures { WritesAll (record_lines node fields.now) page.old page.new }
 {
     if report::spilled(fields, 0, 0) {
-        return report::node_line(out, at, node, fields);
+        report::node_line(page, node, fields);
     }
-    at
 }
 
-fn show_readings(out: &mut [u8], at: usize, readings: [Reading; LINES]) -> usize
-    ensures { Leaves (appended_all out.old at (lines_below (λ k. reading_lines k (get_or (map taken readings) k emptied)) line_count)) out.new result }
+fn show_readings(page: &mut Page, readings: [Reading; LINES])
+    ensures { WritesAll (lines_below (λ k. reading_lines k (get_or (map taken readings) k emptied)) line_count) page.old page.new }
 {
-    let mut end = at;
-    let mut k = 0;
-    while k < LINES {
-        end = show_reading(out, end, k as u8, readings[k]);
-        k += 1;
+    for k in 0..LINES {
+        show_reading(page, k as u8, readings[k]);
     }
-    end
 }
 
 // A reading is shown as its record is taken.
-fn show_reading(out: &mut [u8], at: usize, k: u8, reading: Reading) -> usize
-    ensures { Leaves (appended_all out.old at (reading_lines k (taken reading))) out.new result }
+fn show_reading(page: &mut Page, k: u8, reading: Reading)
+    ensures { WritesAll (reading_lines k (taken reading)) page.old page.new }
 {
-    let bytes = reading.bytes;
     let cursor = frame::taken_cursor(reading);
-    let mode = cursor.mode;
-    let n = cursor.count;
-    report::reading_line(out, at, k, mode, &bytes[0..n])
+    report::reading_line(page, k, cursor.mode, &reading.bytes[..cursor.count]);
 }

@@ -1,6 +1,6 @@
 // A line of a script is played: its call is made on the hub, the table and the lines' records, and its answer is written.
 // What a line answers and leaves is the definition's: specs/World.antt, specs/Plays.antt.
-ghost use Rattle.std.specs.Prelude.{min, ◌≡◌, length};
+ghost use Rattle.std.specs.Prelude.{◌≡◌, length};
 ghost use Rattle.script.specs.Script.{room_most};
 ghost use Rattle.script.specs.Answers.{meaning, Within};
 ghost use Rattle.transcript.specs.World.{start, enrol, feed, close, finish, show, list, bad, long, play, play_line, next_number};
@@ -10,19 +10,15 @@ use crate::Run;
 use crate::answers::FILLER;
 use rules::LINES;
 use script::{Call, DATA_MOST, ROOM_MOST};
-
-// No line has a greater number.
-const LAST_NUMBER: u64 = 18446744073709551615;
+use text::Page;
 
 // Before the first line: the hub before any start, and emptied records.
 pub fn first() -> Run
     ensures { result ≡ first_run }
 {
-    let hub = hub::first();
-    let reading = frame::emptied();
     Run {
-        hub: hub,
-        readings: [reading; LINES],
+        hub: hub::first(),
+        readings: [frame::emptied(); LINES],
         at: 0,
     }
 }
@@ -44,14 +40,11 @@ pub fn play(
     made(run, number, call, table, bytes, room, out)
 }
 
-// The number of the next line.
+// The number of the next line; none has a greater one than 64 bits hold.
 pub fn next_number(number: u64) -> u64
     ensures { result ≡ next_number number }
 {
-    if number < LAST_NUMBER {
-        return number + 1;
-    }
-    LAST_NUMBER
+    number.saturating_add(1)
 }
 
 // What a line was found to be; the bytes of its word are the first of `bytes`.
@@ -69,16 +62,16 @@ fn made(
 {
     match call {
         Call::Start { len, table: lent } => {
-            let n = least(table.len(), lent);
-            start(run, &mut table[0..n], &bytes[0..len], out)
+            let n = table.len().min(lent);
+            start(run, &mut table[..n], &bytes[..len], out)
         }
         Call::Enrol {
             node,
             kind,
             table: lent,
         } => {
-            let n = least(table.len(), lent);
-            enrol(run, &mut table[0..n], node, kind, out)
+            let n = table.len().min(lent);
+            enrol(run, &mut table[..n], node, kind, out)
         }
         Call::Feed {
             line: k,
@@ -86,13 +79,13 @@ fn made(
             len,
             table: lent,
         } => {
-            let n = least(table.len(), lent);
+            let n = table.len().min(lent);
             feed(
                 run,
-                &mut table[0..n],
+                &mut table[..n],
                 k,
-                &bytes[0..len],
-                &mut room[0..most],
+                &bytes[..len],
+                &mut room[..most],
                 out,
             )
         }
@@ -100,10 +93,10 @@ fn made(
         Call::Finish {
             session,
             room: most,
-        } => finish(run, session, &mut room[0..most], table, out),
+        } => finish(run, session, &mut room[..most], table, out),
         Call::Show => show(run, table, out),
         Call::Table => list(run, table, out),
-        Call::Remark => silent(run),
+        Call::Remark => run,
         Call::Bad { word } => bad(run, number, word, table, out),
         Call::Long => long(run, number, table, out),
     }
@@ -115,14 +108,12 @@ fn start(run: Run, table: &mut [u8], password: &[u8], out: &mut [u8]) -> Run
     ensures { Plays (start (world_of run table.old) password.now) out.old run.at result table.new out.new }
 {
     let started = hub::start(run.hub, table, password);
-    let answer = started.answer;
-    let next = started.hub;
-    let readings = run.readings;
-    let end = crate::answers::call_line(out, run.at, answer);
+    let mut page = Page { out, at: run.at };
+    crate::answers::call_line(&mut page, started.answer);
     Run {
-        hub: next,
-        readings: readings,
-        at: end,
+        hub: started.hub,
+        at: page.at,
+        ..run
     }
 }
 
@@ -130,137 +121,84 @@ fn enrol(run: Run, table: &mut [u8], node: u8, kind: u16, out: &mut [u8]) -> Run
     ensures { Plays (enrol (world_of run table.old) node kind) out.old run.at result table.new out.new }
 {
     let answer = hub::enrol(table, node, kind);
-    let hub = run.hub;
-    let readings = run.readings;
-    let end = crate::answers::call_line(out, run.at, answer);
-    Run {
-        hub: hub,
-        readings: readings,
-        at: end,
-    }
+    let mut page = Page { out, at: run.at };
+    crate::answers::call_line(&mut page, answer);
+    Run { at: page.at, ..run }
 }
 
 fn close(run: Run, line: u8, table: &[u8], out: &mut [u8]) -> Run
     ensures { Plays (close (world_of run table.now) line) out.old run.at result table.now out.new }
 {
-    let readings = run.readings;
-    let closed = hub::close_by_value(run.hub, service::record_of(readings, line), line);
-    let answer = closed.answer;
-    let next = closed.hub;
-    let kept = service::with_record(readings, line, closed.reading);
-    let end = crate::answers::call_line(out, run.at, answer);
+    let lent = service::record_of(run.readings, line);
+    let closed = hub::close_by_value(run.hub, lent, line);
+    let mut page = Page { out, at: run.at };
+    crate::answers::call_line(&mut page, closed.answer);
     Run {
-        hub: next,
-        readings: kept,
-        at: end,
+        hub: closed.hub,
+        readings: service::with_record(run.readings, line, closed.reading),
+        at: page.at,
     }
 }
 
 fn finish(run: Run, session: u16, room: &mut [u8], table: &[u8], out: &mut [u8]) -> Run
     ensures { Plays (finish (world_of run table.now) session (length room.old)) out.old run.at result table.now out.new }
 {
-    memory::fill(room, 0, room.len(), FILLER);
+    room.fill(FILLER);
     let finished = hub::finish(run.hub, session, room);
-    let answer = finished.answer;
-    let next = finished.hub;
-    let readings = run.readings;
-    let end = crate::answers::finish_line(out, run.at, answer, room);
+    let mut page = Page { out, at: run.at };
+    crate::answers::finish_line(&mut page, finished.answer, room);
     Run {
-        hub: next,
-        readings: readings,
-        at: end,
+        hub: finished.hub,
+        at: page.at,
+        ..run
     }
 }
 
 fn feed(run: Run, table: &mut [u8], line: u8, wire: &[u8], room: &mut [u8], out: &mut [u8]) -> Run
     ensures { Plays (feed (world_of run table.old) line wire.now (length room.old)) out.old run.at result table.new out.new }
 {
-    let readings = run.readings;
-    memory::fill(room, 0, room.len(), FILLER);
-    let fed = hub::feed_by_value(
-        run.hub,
-        table,
-        service::record_of(readings, line),
-        line,
-        wire,
-        room,
-    );
-    let answer = fed.answer;
-    let next = fed.hub;
-    let kept = service::with_record(readings, line, fed.reading);
-    let end = crate::answers::feed_line(out, run.at, answer, room);
+    room.fill(FILLER);
+    let lent = service::record_of(run.readings, line);
+    let fed = hub::feed_by_value(run.hub, table, lent, line, wire, room);
+    let mut page = Page { out, at: run.at };
+    crate::answers::feed_line(&mut page, fed.answer, room);
     Run {
-        hub: next,
-        readings: kept,
-        at: end,
+        hub: fed.hub,
+        readings: service::with_record(run.readings, line, fed.reading),
+        at: page.at,
     }
 }
 
 fn show(run: Run, table: &[u8], out: &mut [u8]) -> Run
     ensures { Plays (show (world_of run table.now)) out.old run.at result table.now out.new }
 {
-    let hub = run.hub;
-    let readings = run.readings;
-    let end = crate::state::show(out, run.at, hub, table, readings);
-    Run {
-        hub: hub,
-        readings: readings,
-        at: end,
-    }
+    let mut page = Page { out, at: run.at };
+    crate::state::show(&mut page, run.hub, table, run.readings);
+    Run { at: page.at, ..run }
 }
 
 fn list(run: Run, table: &[u8], out: &mut [u8]) -> Run
     ensures { Plays (list (world_of run table.now)) out.old run.at result table.now out.new }
 {
-    let hub = run.hub;
-    let readings = run.readings;
-    let end = crate::listing::list(out, run.at, table);
-    Run {
-        hub: hub,
-        readings: readings,
-        at: end,
-    }
+    let mut page = Page { out, at: run.at };
+    crate::listing::list(&mut page, table);
+    Run { at: page.at, ..run }
 }
 
 // ---- lines that no call is made of
 
-fn silent(run: Run) -> Run
-    ensures { result ≡ run }
-{
-    run
-}
-
 fn bad(run: Run, number: u64, word: u8, table: &[u8], out: &mut [u8]) -> Run
     ensures { Plays (bad (world_of run table.now) number word) out.old run.at result table.now out.new }
 {
-    let hub = run.hub;
-    let readings = run.readings;
-    let end = report::bad_line(out, run.at, number, word);
-    Run {
-        hub: hub,
-        readings: readings,
-        at: end,
-    }
+    let mut page = Page { out, at: run.at };
+    report::bad_line(&mut page, number, word);
+    Run { at: page.at, ..run }
 }
 
 fn long(run: Run, number: u64, table: &[u8], out: &mut [u8]) -> Run
     ensures { Plays (long (world_of run table.now) number) out.old run.at result table.now out.new }
 {
-    let hub = run.hub;
-    let readings = run.readings;
-    let end = report::long_line(out, run.at, number);
-    Run {
-        hub: hub,
-        readings: readings,
-        at: end,
-    }
-}
-
-fn least(a: usize, b: usize) -> usize
-    ensures { result ≡ min a b }
-{
-    if a < b {
-        return a;
-    }
-    b
+    let mut page = Page { out, at: run.at };
+    report::long_line(&mut page, number);
+    Run { at: page.at, ..run }
 }

@@ -9,11 +9,12 @@ use lib.Seq.{take-nil, take-take, length-take-le}
 use Rattle.line.specs.declared.PacketOutcome.{PacketOutcome as Got}
 use Rattle.line.specs.declared.PacketOutcome.TheVariants as got
 use Rattle.line.specs.Reader.{limit}
-use Rattle.frame.specs.declared.Judged.{Judged}
-use Rattle.frame.specs.declared.Judged.TheVariants as judged
+use Rattle.frame.specs.declared.AcceptedFrame.{AcceptedFrame}
+use Rattle.frame.specs.declared.PacketRefusal.{PacketRefusal}
+use Rattle.std.specs.Prelude.{Result, Ok, Err}
 use Rattle.frame.specs.declared.FrameOutcome.{FrameOutcome}
 use mathlib.Core.Option.{Option, some}
-use Rattle.line.specs.declared.PacketAt as line_told
+use Rattle.line.specs.declared.AnswerAt.{AnswerAt}
 use Rattle.line.specs.Reader as line
 use Rattle.line.specs.Answers as line_answers
 use Rattle.frame.specs.Frame as Frame
@@ -40,10 +41,13 @@ front_whole bs c n k s p e w =
     ap (λ (x : ℕ). take x bs) e ∙ w ∙ ap (λ (x : ℕ). framed c (take k (drop x (take n bs)))) p ∙ ap (framed c) (front_part bs n k e)
 
 -- a packet of n bytes at the front of bs was judged as j
-pub judging : (bs : List ℕ) (n : ℕ) (g : Got) (j : Judged) (r : FrameOutcome) → g ≡ got.Packet n → r ≡ outcome_of j
+pub judging : (bs : List ℕ) (n : ℕ) (g : Got) (j : Result AcceptedFrame PacketRefusal) (r : FrameOutcome) → g ≡ got.Packet n → r ≡ outcome_of j
     → Judges (judge (take n bs)) (take n bs) j → n ≤ limit → length bs ≡ limit → Judging bs g r
 unfolding verdict
-judging bs n g (judged.Frame c s k) r e f x h l =
+judging bs n g (Ok a) r e f x h l =
+    let c = a.command in
+    let s = a.start in
+    let k = a.len in
     let (p, q, m) = x.within in
     let w : length (take n bs) ≡ n = length-take-le n bs (omega arith) in
     record {
@@ -55,10 +59,10 @@ judging bs n g (judged.Frame c s k) r e f x h l =
       whole = rw f (front_whole bs c n k s p (q ∙ w) x.whole);
       full = l;
     }
-judging bs n g (judged.Refused q) r e f x h l = record { told = rw (e, f) (ap some x.told); within = rw f tt; whole = rw f tt; full = l }
+judging bs n g (Err q) r e f x h l = record { told = rw (e, f) (ap some x.told); within = rw f tt; whole = rw f tt; full = l }
 
 -- what the line reader answered, judged, is what the frame layer answers
-pub answered : (s : State) (w bs : List ℕ) (t : line_told.PacketAt) (o : FrameOutcome) → line_answers.Answers (line.read s w) (line_answers.answer_of bs t) → Judging bs t.outcome o
+pub answered : (s : State) (w bs : List ℕ) (t : AnswerAt Got) (o : FrameOutcome) → line_answers.Answers (line.read s w) (line_answers.answer_of bs t) → Judging bs t.outcome o
     → Answers (read s w) (answer_of bs (record { used = t.used; outcome = o; cursor = t.cursor }))
 answered s w bs t o x y = record {
   told =

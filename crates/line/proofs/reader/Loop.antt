@@ -1,25 +1,43 @@
 -- What a turn of the reader's loop does, against the definition.
-use Prim.Native.Nat.{ℕ, ◌+◌, ◌≤◌, ◌<◌}
-use mathlib.Core.Path.{◌≡◌, ◌∙◌}
+use Prim.Native.Nat.{ℕ, zero, suc, ◌+◌, ◌-◌, ◌≤◌, ◌<◌, min}
+use mathlib.Core.Path.{◌≡◌, refl, sym, ap, ◌∙◌}
+use mathlib.Core.Bool.{Bool, true, false, cond, not}
 use mathlib.Core.List.{List, [], ◌∷◌, ◌++◌}
 use mathlib.Core.Option.{Option, none, some}
 use native.Mathlib.Numerals.{add-one}
 use native.Mathlib.Nat.{zero-add, add-zero, add-suc, suc-add, add_assoc}
 use native.Mathlib.Omega.{arith}
-use lib.ListN.{length, take, drop, set, get_or, length-set, drop_of_length-le}
-use lib.Seq.{length-take-le, take-take, take-suc-set, drop-cons}
-use borrow.Author.Tests.{lt-ltb, ne_eqb}
+use lib.ListN.{length, take, drop, set, get_or, length-set, length-take, length-drop, drop_of_length-le}
+use lib.Seq.{take_all, length-take-le, take-take, take-suc-set, drop-cons}
+use borrow.Author.Tests.{lt-ltb, ltb-false, ne_eqb, eqb-false}
+use borrow.Rule.Slice.PartMut.{put_mid}
+use Rattle.std.specs.Prelude.{Some, None, unwrap_or, position, slice_get, eqb, ltb}
+use Rattle.std.proofs.Common.{inl, inr}
+use Rattle.std.proofs.lemmas.Option.{slice_get_within, slice_get_cases, get_or_from_slice_get}
+use Rattle.std.specs.List.{position_or_len}
+use Rattle.std.proofs.lemmas.Bool.{false≢true}
+use Rattle.std.proofs.lemmas.List.{get_or-take, get_or-drop}
+use Rattle.std.proofs.lemmas.List.Sums.{prefix_len-le-length, fails_before_first}
+use Rattle.std.proofs.lemmas.List.Edits.{paste_none, paste_more}
+use Rattle.std.proofs.lemmas.Slice.{put_mid-paste}
+use Rattle.std.proofs.Math.Seq.{paste}
 use Rattle.line.specs.Places.{FaultAt}
 use Rattle.line.specs.declared.Mode.{Mode}
 use Rattle.line.specs.declared.Mode.TheVariants.{Plain, Escaped, Skipping}
 use Rattle.line.specs.declared.PacketOutcome.{PacketOutcome as Given}
 use Rattle.line.specs.declared.PacketOutcome.TheVariants.{Nothing, Packet, Refused}
-use Rattle.line.specs.declared.step.Action.TheVariants.{Keep, Give}
+use Rattle.line.specs.declared.Fault.{Fault}
+use Rattle.line.specs.declared.Cursor.{Cursor}
+use Rattle.line.specs.declared.step.Action.{Action}
+use Rattle.line.specs.declared.step.Action.TheVariants.{Store, Keep, Settle, Skip, Refuse, Give}
 use Rattle.line.specs.Wire.{END, ESC}
 use Rattle.line.specs.Scan.{Scan, onward, ahead, scan}
 use Rattle.line.specs.Reader.{limit, State, plain, skipping, emptied, Outcome, packet, decoded, inner, step, read}
-use Rattle.line.specs.Answers.{told, Within, Clear}
-use Rattle.line.specs.Step.{Runs, Skips, acted, Fits}
+use Rattle.line.specs.Answers.{at, taken_as, told, Within, Clear, Answers, answer_of}
+use Rattle.line.specs.AnswerLaws.{taken_clear, clear_reachable}
+use Rattle.line.specs.Reachable.{Possible}
+use Rattle.line.specs.ReachableLaws.{step-possible}
+use Rattle.line.specs.Step.{is_special, Takes, Runs, Skips, told_at, fault_behind, acted, Fits, Acts, stepping}
 
 -- ---- a call on the bytes from i on, for any step
 
@@ -45,6 +63,22 @@ module _ {State Out : Type 0} (step : State → ℕ → State × Option Out) whe
     pub ended : length w ≤ i → ahead k (scan step s (drop i w)) ≡ record { used = k; outcome = none; after = s }
     unfolding scan
     ended h = rw (drop_of_length-le w h, add-zero)
+
+-- the first place that passes a test, or the end: no element before it passes
+first_or_end : (p : ℕ → Bool) (xs : List ℕ) (n k : ℕ) → n ≡ length xs → k ≡ unwrap_or (position p xs) n → (k ≤ n) × ((j : ℕ) → j < k → p (get_or xs j 0) ≡ false)
+first_or_end p xs n k l e =
+    let q : ℕ = position_or_len p xs in
+    let h : q ≤ length xs = prefix_len-le-length (λ x. not (p x)) xs in
+    let first : k ≡ q = e ∙ go q (ltb q (length xs)) refl h in
+    (omega arith, λ j x. fails_before_first p xs j 0 (rw first at x))
+  where
+    go : (q : ℕ) (t : Bool) → ltb q (length xs) ≡ t → q ≤ length xs → unwrap_or (cond t (Some q) None) n ≡ q
+    go q true e h = refl
+    go q false e h = let x : length xs ≤ q = ltb-false q (length xs) e in omega arith
+
+-- a byte that goes as it is
+not_special : (b : ℕ) → is_special b ≡ false → (b ≡ END → ⊥) × (b ≡ ESC → ⊥)
+not_special b e = (λ x. false≢true (sym e ∙ ap is_special x), λ x. false≢true (sym e ∙ ap is_special x))
 
 -- ---- the actions
 
@@ -96,6 +130,32 @@ runs_more bs n w i cs k x l p q r =
       clear = λ y. tt;
     }
 
+-- k bytes that go as they are, stored at once
+runs_stored : (bs : List ℕ) (n : ℕ) (w : List ℕ) (i : ℕ) (k : ℕ) → length bs ≡ limit → n + k ≤ limit → i + k ≤ length w
+    → ((j : ℕ) → j < k → is_special (get_or w (i + j) 0) ≡ false) → Runs Plain bs n w i (paste bs n (drop i w) k) k
+runs_stored bs n w i zero full h l goes = rw (← paste_none bs n (drop i w)) (runs_none Plain bs n w i full (omega arith) (omega arith))
+runs_stored bs n w i (suc k) full h l goes =
+    let before = runs_stored bs n w i k full (omega arith) (omega arith) (λ j x. goes j (omega arith)) in
+    let b = not_special (get_or w (i + k) 0) (goes k (omega arith)) in
+    let more = runs_more bs n w i (paste bs n (drop i w) k) k before (omega arith) b.0 b.1 (omega arith) in
+    rw (← get_or-drop i w k 0, paste_more bs n (drop i w) k 0 (omega arith) (simp length-drop (omega arith)), add-one) at more
+
+-- those of at most m next bytes before one that is sent escaped
+pub runs_front : (bs : List ℕ) (n : ℕ) (w : List ℕ) (i m k : ℕ) (front : List ℕ) → length bs ≡ limit → n ≤ limit → i ≤ length w → m ≡ min (limit - n) (length w - i)
+    → k ≡ unwrap_or (position is_special (take (i + m - i) (drop i w))) m → front ≡ take k (take (i + m - i) (drop i w))
+    → Runs Plain bs n w i (put_mid n (n + k - n) bs front) k
+runs_front bs n w i m k front full h l e x f =
+    let same : i + m - i ≡ m = omega arith in
+    let long : length (take m (drop i w)) ≡ m = simp (length-take, length-drop) (omega arith) in
+    let found = first_or_end is_special (take m (drop i w)) m k (sym long) (rw same at x) in
+    let within : k ≤ m = found.0 in
+    let goes : (j : ℕ) → j < k → is_special (get_or w (i + j) 0) ≡ false = λ j y. rw (get_or-take m (drop i w) j 0 (omega arith), get_or-drop i w j 0) at (found.1 j y) in
+    let taken : front ≡ take k (drop i w) = rw (same, take-take k m (drop i w) within) at f in
+    let held : length (take k (drop i w)) ≡ k = simp (length-take, length-drop) (omega arith) in
+    let put : put_mid n (n + k - n) bs front ≡ paste bs n (take k (drop i w)) k = put_mid-paste n (n + k - n) bs front (take k (drop i w)) k taken (omega arith) (omega arith) in
+    let same_front : take k (take k (drop i w)) ≡ take k (drop i w) = take-take k k (drop i w) (omega arith) in
+    rw (put, same_front) (runs_stored bs n w i k full (omega arith) (omega arith) goes)
+
 -- ---- a run of skipped bytes
 
 -- a byte that is no END
@@ -112,6 +172,20 @@ skips_more w i k x l p = record {
   within = omega arith;
 }
 
+-- k bytes none of which is an END
+skips_all : (w : List ℕ) (i k : ℕ) → i + k ≤ length w → ((j : ℕ) → j < k → eqb (get_or w (i + j) 0) END ≡ false) → Skips w i k
+skips_all w i zero l x = skips_none w i (omega arith)
+skips_all w i (suc k) l x = rw (← add-one k) (skips_more w i k (skips_all w i k (omega arith) (λ j y. x j (omega arith))) (omega arith) (eqb-false (get_or w (i + k) 0) END (x k (omega arith))))
+
+-- those before the next END
+pub skips_front : (w : List ℕ) (i k : ℕ) → i ≤ length w
+    → let rest = take (length w - i) (drop i w) in k ≡ unwrap_or (position (λ b. eqb b END) rest) (length rest) → Skips w i k
+skips_front w i k l e =
+    let all : take (length w - i) (drop i w) ≡ drop i w = take_all (length w - i) (drop i w) (simp length-drop (omega arith)) in
+    let found = first_or_end (λ b. eqb b END) (drop i w) (length (drop i w)) k refl (rw all at e) in
+    let within : k ≤ length w - i = rw length-drop at found.0 in
+    skips_all w i k (omega arith) (λ j y. rw get_or-drop at (found.1 j y))
+
 -- ---- an outcome
 
 -- an outcome told of the bytes held is told of the whole array
@@ -121,3 +195,107 @@ pub gave : (bs : List ℕ) (n : ℕ) (o : Given) (s : State) (w : List ℕ) (i :
 gave bs n Nothing s w i x h e = absurd x
 gave bs n (Packet k) s w i x h e = found step s w i i emptied (packet (take k bs)) h (e ∙ rw (take-take k n bs))
 gave bs n (Refused f) s w i x h e = found step s w i i emptied _ h e
+
+-- ---- a turn
+
+-- no byte at i: it is the end
+past : (w : List ℕ) (i : ℕ) → slice_get w i ≡ None → length w ≤ i
+past w i e = elim (slice_get_cases w i).1 [ inl p ↦ (let q : slice_get w i ≡ Some p.0 = p.2 in cc) | inr p ↦ p.0 ]
+
+-- where the reader stands before the byte at i: what it tells of all the bytes, `whole`, is what it tells from here, counted on
+pub record Stands (whole : Scan State Outcome) (bs : List ℕ) (n : ℕ) (m : Mode) (w : List ℕ) (i : ℕ) : Type 0 where
+  pub read : whole ≡ ahead i (read (at (take n bs) m) (drop i w))
+  pub within : i ≤ length w
+  pub held : n ≤ limit
+  pub clear : Clear m n
+
+pub begins : (bs : List ℕ) (p r : Cursor) (w : List ℕ) → Takes p r → Stands (read (taken_as bs p.count p.mode) w) bs r.count r.mode w 0
+begins bs p r w x = record {
+  read = ap (λ (s : State). read s w) (sym (x.state bs)) ∙ ahead-zero step _ w;
+  within = omega arith;
+  held = x.within;
+  clear = x.clear;
+}
+
+module _ {whole : Scan State Outcome} {bs : List ℕ} {n : ℕ} {m : Mode} {w : List ℕ} {i : ℕ} (x : Stands whole bs n m w i) where
+  -- a run of bytes that go as they are
+  pub ran : {cs : List ℕ} {k : ℕ} → Runs m bs n w i cs k → Stands whole cs (n + k) m w (i + k)
+  ran {cs} {k} y = record {
+    read = x.read ∙ ap (ahead i) y.read ∙ ahead-ahead step i k _;
+    within = y.within;
+    held = y.held;
+    clear = y.clear x.clear;
+  }
+
+  -- the end of the bytes
+  pub ends : slice_get w i ≡ None → Answers whole (answer_of bs (told_at i Nothing n m))
+  ends e = record {
+    told = rw (taken_clear bs n m x.held x.clear) (sym (x.read ∙ ended step _ w i i (past w i e)));
+    packet_within = tt;
+    count_within = x.held;
+    clear = x.clear;
+  }
+
+  -- the next byte, by the action that it asks for
+  module _ {b : ℕ} (full : length bs ≡ limit) (next : slice_get w i ≡ Some b) where
+    more : i < length w
+    more = slice_get_within w i b next
+
+    stepped : {a : Action} → Acts n (stepping m b) a → step (at (take n bs) m) (get_or w i 0) ≡ acted (take n bs) a
+    stepped y = rw (get_or_from_slice_get w i b 0 next) (sym (y.act (take n bs) (let h = x.held in length-take-le n bs (omega arith))))
+
+    goes_on : {a : Action} → Acts n (stepping m b) a → (s : State) → acted (take n bs) a ≡ (s, none) → whole ≡ ahead (i + 1) (read s (drop (i + 1) w))
+    goes_on y s e = x.read ∙ moved step _ w i i s more (stepped y ∙ e)
+
+    settles : {a : Action} → Acts n (stepping m b) a → (f : FaultAt) → acted (take n bs) a ≡ (skipping f, none) → Possible f
+    settles y f e = step-possible _ (get_or w i 0) f (clear_reachable bs n m x.held x.clear) (stepped y ∙ e)
+
+    pub stores : (v : ℕ) → Acts n (stepping m b) (Store v) → Stands whole (set bs n v) (n + 1) Plain w (i + 1)
+    stores v y = let h = y.fits in record {
+      read = goes_on y _ (stored bs n v (omega arith));
+      within = let h = more in omega arith;
+      held = omega arith;
+      clear = tt;
+    }
+
+    pub keeps : (k : Mode) → Acts n (stepping m b) (Keep k) → Stands whole bs n k w (i + 1)
+    keeps k y = record {
+      read = goes_on y _ refl;
+      within = let h = more in omega arith;
+      held = x.held;
+      clear = kept_clear n k y.fits;
+    }
+
+    -- the rest of a settled piece is passed over
+    passed : {a : Action} → Acts n (stepping m b) a → (f : FaultAt) → acted (take n bs) a ≡ (skipping f, none)
+        → {k : ℕ} → Skips w (i + 1) k → Stands whole bs 0 (Skipping f) w (i + 1 + k)
+    passed y f e {k} z = record {
+      read = goes_on y _ e ∙ ap (ahead (i + 1)) (z.read f) ∙ ahead-ahead step (i + 1) k _;
+      within = z.within;
+      held = omega arith;
+      clear = (refl, settles y f e);
+    }
+
+    pub settled : (k : Fault) → Acts n (stepping m b) (Settle k) → (f : FaultAt) → f ≡ fault_behind k (take n bs)
+        → {j : ℕ} → Skips w (i + 1) j → Stands whole bs 0 (Skipping f) w (i + 1 + j)
+    settled k y f e = passed y f (ap (λ (g : FaultAt). (skipping g, none)) (sym e))
+
+    pub skipped : (f : FaultAt) → Acts n (stepping m b) (Skip f) → {j : ℕ} → Skips w (i + 1) j → Stands whole bs 0 (Skipping f) w (i + 1 + j)
+    skipped f y = passed y f refl
+
+    pub refuses : (k : Fault) → Acts n (stepping m b) (Refuse k) → (f : FaultAt) → f ≡ fault_behind k (take n bs)
+        → Answers whole (answer_of bs (told_at (i + 1) (Refused f) 0 Plain))
+    refuses k y f e = record {
+      told = sym (x.read ∙ found step _ w i i emptied _ more (stepped y) ∙ rw e);
+      packet_within = tt;
+      count_within = omega arith;
+      clear = tt;
+    }
+
+    pub gives : (o : Given) → Acts n (stepping m b) (Give o) → Answers whole (answer_of bs (told_at (i + 1) o 0 Plain))
+    gives o y = record {
+      told = sym (x.read ∙ gave bs n o _ w i y.fits more (stepped y));
+      packet_within = given_within n o x.held y.fits;
+      count_within = omega arith;
+      clear = tt;
+    }

@@ -1,26 +1,13 @@
-use mathlib.Core.Path.{◌≡◌, refl, sym, ◌∙◌}
-use native.Mathlib.Omega.{arith}
-use lib.ListN.{length}
-use borrow.Author.Rules.{rules}
-use Rattle.passwords.specs.Passwords.{password_size}
-use Rattle.passwords.proofs.PasswordLaws.{is_same_more, is_same_end}
+use Rattle.std.proofs.Common.{sym, ◌∙◌, arith}
+use Rattle.std.proofs.lemmas.Slice.Zip.{Zip-more, either_empty_from_Zip}
+use Rattle.passwords.proofs.ByteLaws.{same_more, same_end}
 use Rattle.passwords.proofs.is_same.Goals as goal
 
-pub loop-i-init : goal.loop-i-init
-loop-i-init c = (search rules, refl)
-
-pub loop-i-preserved : goal.loop-i-preserved
-loop-i-preserved c =
-    let a = c.args in
-    let l = c.loop-i in
-    let m : length a.a ≡ password_size = search rules in
-    let n : length a.b ≡ password_size = search rules in
-    (omega arith, l.invariant.1 ∙ is_same_more a.a a.b l.i (omega arith) (omega arith) l.same l.inside)
+pub loop-x-preserved : goal.loop-x-preserved
+loop-x-preserved c =
+    let parts = Zip-more c.loop-x.x-iterator c.next.new.self _ _ c.in-Some.is c.next.ensures.steps in
+    let before = rw (parts.0, parts.1) at c.loop-x.invariant in
+    (omega (arith, before.0), before.1 ∙ same_more _ _ _ _ _ _)
 
 pub returns : goal.returns
-returns c =
-    let a = c.args in
-    let l = c.loop-i in
-    let m : length a.a ≡ password_size = search rules in
-    let n : length a.b ≡ password_size = search rules in
-    sym (l.invariant.1 ∙ is_same_end a.a a.b l.i (omega arith) (omega arith) l.same l.inside)
+returns c = sym (c.loop-x.invariant.1 ∙ same_end _ _ c.loop-x.invariant.0 (either_empty_from_Zip c.loop-x.x-iterator c.next.new.self _ c.in-None.is c.next.ensures.steps) _ _)

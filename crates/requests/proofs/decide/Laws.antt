@@ -71,6 +71,6 @@ module _ (h : Hub) (t : List ℕ) (l : ℕ) (d : List ℕ) where
   unfolding virgin_state
   zeroed_decides = record { says = refl; left = refl; enough = tt }
 
-  pub sent_decides : length d ≡ sessions.mode_send_size → Decides (mode_send h t l d) h t l d (confirmed h.slots t d)
+  pub sent_decides : length d ≡ sessions.mode_send_size → Decides (mode_send h t l d) h t l d (confirmed h.slots t (sessions.mode_send_of d))
   unfolding mode_send sessions.mode_send
   sent_decides n = record { says = refl; left = refl; enough = n }

@@ -1,14 +1,9 @@
-use mathlib.Core.Path.{◌≡◌}
-use lib.ListN.{length}
 use Rattle.requests.specs.Answers.{reading_at}
-use Rattle.rounds.specs.Rounds.{Fed}
-use Rattle.rounds.proofs.Made.{Made}
+use Rattle.rounds.specs.Rounds.{Kept, Fed, Rounds}
 use Rattle.rounds.proofs.rounds_feed.Given as goal
 
--- So many rounds are made as are not left, from what the login left; the lent memory keeps its length.
-abbrev pub invariant-loop-left : goal.invariant-loop-left
-invariant-loop-left l = (length l.table ≡ length l.initial.table) × (length l.room ≡ length l.initial.room)
-    × Made (Fed l.bytes) l.rounds l.left (record { hub = l.initial.kept; table = l.initial.table; reading = reading_at l.initial.held l.initial.cursor; room = l.initial.room }) l.len (record { hub = l.kept; table = l.table; reading = reading_at l.held l.cursor; room = l.room })
-
-abbrev pub decreases-loop-left : goal.decreases-loop-left
-decreases-loop-left l = l.left
+-- as many rounds are made as are counted, from what the login left
+abbrev pub invariant-loop : goal.invariant-loop
+invariant-loop l =
+    let start : Kept = record { hub = l.initial.kept; table = l.initial.table; reading = reading_at l.initial.held l.initial.cursor; room = l.initial.room } in
+    Rounds (Fed l.bytes) l.counter start l.len (record { hub = l.kept; table = l.table; reading = reading_at l.held l.cursor; room = l.room })

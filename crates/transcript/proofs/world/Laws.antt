@@ -1,22 +1,19 @@
 -- What the calls' promises and the written lines make of a line of a script.
-use Prim.Native.Nat.{ℕ, zero, suc, ◌-◌, min}
+use Prim.Native.Nat.{ℕ, zero, suc, min}
 use mathlib.Core.Path.{◌≡◌, refl, ap}
 use mathlib.Core.List.{List, [], ◌∷◌, ◌++◌, map}
 use mathlib.Core.Bool.{false}
-use native.Mathlib.Nat.{sub-zero, suc-min-suc, min-zero, zero-min}
-use lib.ListN.{length, take, drop, get_or, set, replicate, length-replicate, get_or-map}
-use lib.Seq.{sets}
-use Rattle.memory.specs.WroteLaws.{take_min, sets-whole}
+use native.Mathlib.Nat.{suc-min-suc, min-zero, zero-min}
+use lib.ListN.{length, take, drop, get_or, set, replicate, get_or-map}
+use Rattle.memory.specs.WroteLaws.{take_min}
 use Rattle.line.specs.declared.Reading.{Reading}
 use Rattle.frame.specs.Reader.{emptied_reading, taken}
 use Rattle.feeds.specs.Service as service
 use Rattle.feeds.proofs.ServiceLaws.{map-set, promise_feed}
 use Rattle.rules.specs.declared.Hub.{Hub}
 use Rattle.rules.specs.Promises.{Starts, Enrols, Finishes}
-use Rattle.rules.specs.declared.CallAnswer.{CallAnswer}
-use Rattle.rules.specs.declared.FinishAnswer.{FinishAnswer}
-use Rattle.rules.specs.declared.FeedAnswer.{FeedAnswer}
 use Rattle.rules.specs.Promises.{Closes, Feeds}
+use Rattle.rules.specs.Answers.{CallAnswer, FinishAnswer, FeedAnswer}
 use Rattle.rules.proofs.PromiseLaws.{feeds_promise}
 use Rattle.report.specs.Report.{has_other, bad_line, long_line}
 use Rattle.text.specs.Appended.{appended, Leaves}
@@ -101,10 +98,10 @@ drop_min (suc n) (b ∷ l) = rw (suc-min-suc (length l) n) (drop_min n l)
 
 -- the call x is made on the first n bytes of the table, or on all of a shorter one
 pub plays_lent : (r₀ : Run) (t : List ℕ) {before after : List ℕ} {at : ℕ} {r : Run} (n m : ℕ) (x : World → Played) (part : List ℕ) → m ≡ min (length t) n
-    → Plays (x (world_of r₀ (take (m - 0) t))) before at r part after → Plays (returned n (world_of r₀ t) (x (lending n (world_of r₀ t)))) before at r (part ++ drop (m - 0) t) after
+    → Plays (x (world_of r₀ (take m t))) before at r part after → Plays (returned n (world_of r₀ t) (x (lending n (world_of r₀ t)))) before at r (part ++ drop m t) after
 plays_lent r₀ t {before} {after} {at} {r} n m x part e p =
-    let q : Plays (x (world_of r₀ (take n t))) before at r part after = rw (sub-zero m, e, take_min n t) at p in
-    rw (sub-zero m, e, drop_min n t)
+    let q : Plays (x (world_of r₀ (take n t))) before at r part after = rw (e, take_min n t) at p in
+    rw (e, drop_min n t)
     (record { world = ap (λ (v : World). record { hub = v.hub; table = v.table ++ drop n t; states = v.states }) q.world; text = q.text })
 
 -- ---- the room
@@ -112,9 +109,6 @@ plays_lent r₀ t {before} {after} {at} {r} n m x part e p =
 -- as many bytes of filler as it has
 abbrev pub filled : List ℕ → List ℕ
 filled room = replicate (length room) filler
-
-pub fill_whole : (room : List ℕ) → sets room 0 (filled room) ≡ filled room
-fill_whole room = sets-whole room (filled room) (length-replicate (length room) filler)
 
 pub filled-filler : (room : List ℕ) → has_other filler (filled room) ≡ false
 filled-filler room = other_none filler (length room)

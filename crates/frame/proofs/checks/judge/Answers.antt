@@ -1,13 +1,13 @@
 use Prim.Native.Nat.{ℕ, ◌-◌, ◌<◌}
-use mathlib.Core.Path.{◌≡◌, refl, sym, ap, ◌∙◌}
+use mathlib.Core.Path.{◌≡◌, refl, sym, ◌∙◌}
 use mathlib.Core.List.{List}
-use native.Mathlib.Nat.{sub-zero}
 use native.Mathlib.Omega.{arith}
 use lib.ListN.{length, take, get_or}
 use borrow.Author.Tests.{lt-leb, le-leb, eq-eqb, ne_eqb}
 use Rattle.line.specs.PlaceLaws.{byte_at_end}
 use Rattle.frame.specs.declared.Cause.{Cause}
-use Rattle.frame.specs.declared.Judged.{Judged}
+use Rattle.frame.specs.declared.PacketRefusal.{PacketRefusal}
+use Rattle.std.specs.Prelude.{Err}
 use Rattle.frame.specs.Xor.{xor_all}
 use Rattle.frame.specs.Frame.{decoded_at, byte_at, behind, number, Outcome, frame, refused, command_of, data_of, judge, too_long, too_short, wrong_protocol, below_length, beyond_length, wrong_check}
 use Rattle.frame.proofs.JudgeLaws.{framed_back}
@@ -16,7 +16,7 @@ use Rattle.frame.specs.Judgements.{refused_at}
 use Rattle.frame.proofs.checks.judge.Goals as goal
 
 -- a refusal at the decoded place d
-refuses : (h : List ℕ) (c : Cause) (d : ℕ) (r : Judged) → r ≡ refused_at c h d → judge h ≡ refused (record { number = number c; at = byte_at h (decoded_at d) }) → Judges (judge h) h r
+refuses : (h : List ℕ) (c : Cause) (d : ℕ) (r : PacketRefusal) → r ≡ refused_at c h d → judge h ≡ refused (record { number = number c; at = byte_at h (decoded_at d) }) → Judges (judge h) h (Err r)
 refuses h c d r e x = rw e (record { told = sym x; within = tt; whole = tt })
 
 -- at the END
@@ -64,26 +64,14 @@ refused-requires-then-packet-last c = (omega arith, omega (arith, c.if-n-gt-LIMI
 pub returns-then-packet-last : goal.returns-then-packet-last
 unfolding judge wrong_check
 returns-then-packet-last c =
-    let check_due : c.xor_all.result ≡ xor_all (take (length c.args.packet.now - 1) c.args.packet.now) = c.xor_all.ensures ∙ ap (λ (n : ℕ). xor_all (take n c.args.packet.now)) (sub-zero (length c.args.packet.now - 1)) in
+    let check_due : c.xor_all.result ≡ xor_all (take (length c.args.packet.now - 1) c.args.packet.now) = c.xor_all.ensures in
     refuses _ _ _ _ c.refused-then-packet-last.ensures (rw (le-leb _ _ c.if-n-gt-LIMIT.false, le-leb _ _ c.if-n-lt-AROUND.false, eq-eqb _ _ c.if-protocol-ne0.false, le-leb _ _ (rw c.claimed_len-due.ensures at c.if-n-due.false), le-leb _ _ (rw c.claimed_len-due.ensures at c.if-due-n.false), ne_eqb _ _ (λ e. c.if-packet-last.true (e ∙ sym (check_due)))) refl)
-
-pub overflow_cast-high : goal.overflow_cast-high
-overflow_cast-high c = omega (arith, c.type_inv.packet 2)
-
-pub overflow_cast-low : goal.overflow_cast-low
-overflow_cast-low c = omega (arith, c.type_inv.packet 3)
-
-pub overflow_mul-command : goal.overflow_mul-command
-overflow_mul-command c = omega (arith, c.type_inv.packet 2, c.type_inv.packet 3)
-
-pub overflow_add-command : goal.overflow_add-command
-overflow_add-command c = omega (arith, c.type_inv.packet 2, c.type_inv.packet 3)
 
 pub returns : goal.returns
 unfolding judge
 returns c =
-    let check_due : c.xor_all.result ≡ xor_all (take (length c.args.packet.now - 1) c.args.packet.now) = c.xor_all.ensures ∙ ap (λ (n : ℕ). xor_all (take n c.args.packet.now)) (sub-zero (length c.args.packet.now - 1)) in
+    let check_due : c.xor_all.result ≡ xor_all (take (length c.args.packet.now - 1) c.args.packet.now) = c.xor_all.ensures in
     let h : List ℕ = c.args.packet.now in
     let told : frame (command_of h) (data_of h) ≡ judge h = simp (le-leb _ _ c.if-n-gt-LIMIT.false, le-leb _ _ c.if-n-lt-AROUND.false, eq-eqb _ _ c.if-protocol-ne0.false, le-leb _ _ (rw c.claimed_len-due.ensures at c.if-n-due.false), le-leb _ _ (rw c.claimed_len-due.ensures at c.if-due-n.false), eq-eqb _ _ (c.if-packet-last.false ∙ check_due)) in
     let low : get_or h 3 0 < 256 = omega (arith, c.type_inv.packet 3) in
-    record { told = told; within = (refl, omega arith, omega arith); whole = sym (framed_back h (sym told) low) }
+    rw c.from_be_bytes.ensures (record { told = told; within = (refl, omega arith, omega arith); whole = sym (framed_back h (sym told) low) })

@@ -1,27 +1,18 @@
-use Prim.Native.Nat.{ℕ, ◌+◌, ◌<◌}
-use mathlib.Core.Path.{◌≡◌, refl, sym, ap, ◌∙◌}
-use mathlib.Core.List.{List}
-use native.Mathlib.Numerals.{add-one}
-use native.Mathlib.Omega.{arith}
-use lib.ListN.{length, take, get_or}
-use lib.Seq.{take_all, take-suc}
+use Rattle.std.specs.Prelude.{ℕ, ◌≡◌, List, [], ◌∷◌}
+use Rattle.std.proofs.Common.{sym, ◌∙◌, rules}
+use Rattle.std.specs.List.{fold}
 use Rattle.frame.specs.Xor.{◌⊕◌, xor_all}
-use Rattle.frame.specs.XorLaws.{⊕-zero, xor_all_append}
+use Rattle.frame.specs.XorLaws.{⊕-assoc, ⊕-zero, zero-⊕}
 use Rattle.frame.proofs.checks.xor_all.Goals as goal
 
--- the exclusive or by one byte more
-xor_all_more : (l : List ℕ) (i : ℕ) → i < length l → xor_all (take (i + 1) l) ≡ xor_all (take i l) ⊕ get_or l i 0
+-- taken up one by one, from a on
+folded : (a : ℕ) (l : List ℕ) → fold (λ (x b : ℕ). x ⊕ b) a l ≡ a ⊕ xor_all l
 unfolding xor_all
-xor_all_more l i h =
-    rw (add-one, take-suc l i 0, xor_all_append) (ap (λ (n : ℕ). xor_all (take i l) ⊕ n) (⊕-zero (get_or l i 0)))
-
-pub loop-i-init : goal.loop-i-init
-unfolding xor_all
-loop-i-init c = (omega arith, refl)
-
-pub loop-i-preserved : goal.loop-i-preserved
-unfolding ◌⊕◌
-loop-i-preserved c = (omega arith, ap (λ (n : ℕ). n ⊕ get_or c.args.bytes.now c.loop-i.i 0) c.loop-i.invariant.1 ∙ sym (xor_all_more c.args.bytes.now c.loop-i.i c.loop-i-test.true))
+folded a [] = sym (⊕-zero a)
+folded a (b ∷ l) = folded (a ⊕ b) l ∙ ⊕-assoc a b (xor_all l)
 
 pub returns : goal.returns
-returns c = c.loop-i.invariant.1 ∙ ap xor_all (take_all _ _ c.loop-i-test.false)
+unfolding ◌⊕◌
+returns c =
+    let run : c.fold.result ≡ fold (λ (x b : ℕ). x ⊕ b) 0 c.args.bytes.now = search rules in
+    run ∙ folded 0 c.args.bytes.now ∙ zero-⊕ _

@@ -1,9 +1,8 @@
-use Prim.Native.Nat.{ℕ, ◌-◌, ◌≤◌}
-use mathlib.Core.Path.{◌≡◌, ap}
+use Prim.Native.Nat.{◌≤◌}
+use mathlib.Core.Path.{ap}
 use mathlib.Core.Option.{some}
-use native.Mathlib.Nat.{sub-zero}
 use native.Mathlib.Omega.{arith}
-use lib.ListN.{take, drop}
+use Rattle.std.proofs.Common.{length-take-le}
 use Rattle.line.specs.Reader.{limit}
 use Rattle.frame.specs.Frame.{Refusal, refused}
 use Rattle.frame.specs.Reader.{verdict}
@@ -14,7 +13,7 @@ use Rattle.frame.proofs.reader.judge_in.Goals as goal
 pub slice_bounds-judge-end : goal.slice_bounds-judge-end
 slice_bounds-judge-end c =
     let held : c.in-Packet.n ≤ limit = rw c.in-Packet.is at c.requires.1 in
-    let h = held in omega arith
+    omega (arith, length-take-le c.in-Packet.n c.args.bytes.now (omega arith))
 
 pub returns-in-Nothing : goal.returns-in-Nothing
 unfolding verdict
@@ -24,10 +23,9 @@ pub returns-in-Packet : goal.returns-in-Packet
 returns-in-Packet c =
     let held : c.in-Packet.n ≤ limit = rw c.in-Packet.is at c.requires.1 in
     let h = held in
-    let f : (n : ℕ) → n ≤ limit → take (n - 0) (drop 0 c.args.bytes.now) ≡ take n c.args.bytes.now = λ n x. rw sub-zero in
-    judging c.args.bytes.now c.in-Packet.n c.args.got c.judge.result c.outcome_of.result
-    c.in-Packet.is c.outcome_of.ensures (rw (f _ h) at c.judge.ensures) h c.requires.0
+    judging c.args.bytes.now c.in-Packet.n c.args.got c.judge.result c.into.result
+    c.in-Packet.is c.into.ensures c.judge.ensures h c.requires.0
 
 pub returns-in-Refused : goal.returns-in-Refused
 unfolding verdict
-returns-in-Refused c = record { told = rw (c.in-Refused.is, c.refusal_of.ensures) (ap (λ (n : Refusal). some (refused n)) (fault_refusal c.in-Refused.fault)); within = tt; whole = tt; full = c.requires.0 }
+returns-in-Refused c = record { told = rw (c.in-Refused.is, c.into-in-Refused.ensures) (ap (λ (n : Refusal). some (refused n)) (fault_refusal c.in-Refused.fault)); within = tt; whole = tt; full = c.requires.0 }

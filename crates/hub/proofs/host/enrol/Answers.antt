@@ -7,11 +7,15 @@ use Rattle.hub.proofs.host.enrol.Goals as goal
 pub returns-then-table-ne-TABLE : goal.returns-then-table-ne-TABLE
 returns-then-table-ne-TABLE c = simp (ne_eqb _ _ c.if-table-ne-TABLE.true)
 
-pub returns-then-node-ge-NODES : goal.returns-then-node-ge-NODES
-returns-then-node-ge-NODES c = simp (eq-eqb _ _ c.if-table-ne-TABLE.false, le-ltb _ _ c.if-node-ge-NODES.true)
+pub returns-then-from-ge-NODES : goal.returns-then-from-ge-NODES
+returns-then-from-ge-NODES c = simp (eq-eqb _ _ c.if-table-ne-TABLE.false, le-ltb c.args.node node_count (omega arith))
 
 pub returns-then-in_use : goal.returns-then-in_use
-returns-then-in_use c = simp (eq-eqb _ _ c.if-table-ne-TABLE.false, lt-ltb c.args.node node_count (omega arith), sym c.in_use.ensures ∙ c.if-in_use.true)
+returns-then-in_use c =
+    let used = rw c.from-2.ensures at c.in_use.ensures in
+    simp (eq-eqb _ _ c.if-table-ne-TABLE.false, lt-ltb c.args.node node_count (omega arith), sym used ∙ c.if-in_use.true)
 
 pub returns : goal.returns
-returns c = simp (eq-eqb _ _ c.if-table-ne-TABLE.false, lt-ltb c.args.node node_count (omega arith), sym c.in_use.ensures ∙ c.if-in_use.false, c.enrol.ensures)
+returns c =
+    let used = rw c.from-2.ensures at c.in_use.ensures in
+    simp (eq-eqb _ _ c.if-table-ne-TABLE.false, lt-ltb c.args.node node_count (omega arith), sym used ∙ c.if-in_use.false, c.enrol.ensures)

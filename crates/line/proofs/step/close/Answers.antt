@@ -25,5 +25,5 @@ closed_packet (b ∷ h) n e z = rw (← e, take-length h)
 pub returns-then-count-eq0 : goal.returns-then-count-eq0
 returns-then-count-eq0 c = record { act = λ h e. closed_empty h _ e c.if-count-eq0.true; fits = tt }
 
-pub returns : goal.returns
-returns c = record { act = λ h e. closed_packet h _ e c.if-count-eq0.false; fits = omega arith }
+pub returns-else-count-eq0 : goal.returns-else-count-eq0
+returns-else-count-eq0 c = record { act = λ h e. closed_packet h _ e c.if-count-eq0.false; fits = omega arith }

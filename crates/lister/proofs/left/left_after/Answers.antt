@@ -1,46 +1,34 @@
-use Prim.Native.Nat.{ℕ, suc, ◌+◌, ◌-◌, ◌<◌}
-use mathlib.Core.Path.{◌≡◌, ap, ◌∙◌}
-use mathlib.Core.Bool.{cond}
-use native.Mathlib.Omega.{arith}
-use lib.ListN.{length, take, get_or}
-use lib.Dec.{eqb}
-use borrow.Author.Tests.{eq-eqb, ne_eqb}
+use Rattle.std.proofs.Common.{ℕ, suc, ◌+◌, ◌≡◌, sym, ◌∙◌, List, [], ◌∷◌, cond, length, eqb, reverse, add-zero, add-suc, ap, arith}
+use Rattle.std.proofs.lemmas.Bool.Decides.{nat_tests}
+use Rattle.std.proofs.lemmas.Grind.{common_steps, reverse_onto}
+use Rattle.std.proofs.lemmas.List.{reverse-reverse, length-reverse}
+use Rattle.std.specs.Prelude.{◌==◌, position, unwrap_or}
 use Rattle.frame.specs.Reader.{END}
 use Rattle.lister.specs.Listing.{left_after}
-use Rattle.lister.specs.ListingLaws.{left_more, whole-left}
+use Rattle.lister.specs.ListingLaws.{left_append}
 use Rattle.lister.proofs.left.left_after.Goals as goal
 
-pub loop-i-init : goal.loop-i-init
-loop-i-init c = (omega arith, whole-left _ _)
+-- one byte further from the end
+position_more : (b : ℕ) (l : List ℕ) (n : ℕ) → unwrap_or (position (λ b. b == END) (b ∷ l)) (suc n) ≡ cond (eqb b END) 0 (suc (unwrap_or (position (λ b. b == END) l) n))
+position_more b l n = grind (arith, nat_tests, common_steps)
 
-pub returns-then-wire-i : goal.returns-then-wire-i
-returns-then-wire-i c =
-    let from_end : 0 < c.loop-i.i → left_after c.args.left (take c.loop-i.i c.args.wire.now) ≡ cond (eqb (get_or c.args.wire.now (c.loop-i.i - 1) 0) END) 0 (suc (left_after c.args.left (take (c.loop-i.i - 1) c.args.wire.now))) = λ h. let e : c.loop-i.i ≡ suc (c.loop-i.i - 1) = omega arith in
-    ap (λ (n : ℕ). left_after c.args.left (take n c.args.wire.now)) e ∙ left_more c.args.left c.args.wire.now (c.loop-i.i - 1) (omega arith) in
-    let e = from_end c.loop-i-test.true in
-    let z : left_after c.args.left (take c.loop-i.i c.args.wire.now) ≡ 0 = e ∙ rw (eq-eqb _ _ c.if-wire-i.true) in
-    omega (arith, c.loop-i.invariant.1)
-
-pub loop-i-preserved : goal.loop-i-preserved
-loop-i-preserved c =
-    let from_end : 0 < c.loop-i.i → left_after c.args.left (take c.loop-i.i c.args.wire.now) ≡ cond (eqb (get_or c.args.wire.now (c.loop-i.i - 1) 0) END) 0 (suc (left_after c.args.left (take (c.loop-i.i - 1) c.args.wire.now))) = λ h. let e : c.loop-i.i ≡ suc (c.loop-i.i - 1) = omega arith in
-    ap (λ (n : ℕ). left_after c.args.left (take n c.args.wire.now)) e ∙ left_more c.args.left c.args.wire.now (c.loop-i.i - 1) (omega arith) in
-    let e = from_end c.loop-i-test.true in
-    let z : left_after c.args.left (take c.loop-i.i c.args.wire.now) ≡ suc (left_after c.args.left (take (c.loop-i.i - 1) c.args.wire.now)) = e ∙ rw (ne_eqb _ _ c.if-wire-i.false) in
-    (omega arith, omega (arith, c.loop-i.invariant.1))
-
-pub returns-then-left-more : goal.returns-then-left-more
+-- how many bytes there are behind the last END, or since the count's start
+from_end : (k : ℕ) (l : List ℕ) → left_after k (reverse l) ≡ unwrap_or (position (λ b. b == END) l) (k + length l)
 unfolding left_after
-returns-then-left-more c =
-    let all : left_after c.args.left c.args.wire.now ≡ c.args.left + length c.args.wire.now = let z : c.loop-i.i ≡ 0 = omega arith in
-    let y = rw z at c.loop-i.invariant.1 in
-    omega arith in
-    let e = all in omega arith
+from_end k [] = rw add-zero
+from_end k (b ∷ l) = rw (reverse_onto l b [], left_append k (reverse l) (b ∷ []), from_end k l, add-suc) (sym (position_more b l (k + length l)))
 
-pub returns : goal.returns
-unfolding left_after
-returns c =
-    let all : left_after c.args.left c.args.wire.now ≡ c.args.left + length c.args.wire.now = let z : c.loop-i.i ≡ 0 = omega arith in
-    let y = rw z at c.loop-i.invariant.1 in
-    omega arith in
-    let e = all in omega arith
+behind : (k : ℕ) (w : List ℕ) → left_after k w ≡ unwrap_or (position (λ b. b == END) (reverse w)) (k + length w)
+behind k w =
+    ap (left_after k) (sym (reverse-reverse w)) ∙ from_end k (reverse w)
+    ∙ ap (λ (n : ℕ). unwrap_or (position (λ b. b == END) (reverse w)) (k + n)) (length-reverse w)
+
+pub returns-in-Some : goal.returns-in-Some
+returns-in-Some c =
+    let e : left_after c.args.left c.args.wire.now ≡ c.in-Some.n = behind c.args.left c.args.wire.now ∙ rw (← c.in-Some.ensures) in
+    omega (arith, e)
+
+pub returns-in-None : goal.returns-in-None
+returns-in-None c =
+    let e : left_after c.args.left c.args.wire.now ≡ c.args.left + length c.args.wire.now = behind c.args.left c.args.wire.now ∙ rw (← c.in-None.ensures) in
+    omega (arith, e, c.saturating_add.ensures)

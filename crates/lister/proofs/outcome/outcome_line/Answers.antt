@@ -1,10 +1,10 @@
-use native.Mathlib.Omega.{arith}
+use Rattle.std.proofs.Common.{refl, arith}
 use Rattle.lister.specs.LinesLaws.{frame_line_short, refused_line_short}
 use Rattle.lister.specs.ListingLaws.{leaves_nothing}
 use Rattle.lister.proofs.outcome.outcome_line.Goals as goal
 
 pub returns-in-Nothing : goal.returns-in-Nothing
-returns-in-Nothing c = rw c.in-Nothing.is (record { line = leaves_nothing _ _; short = omega arith })
+returns-in-Nothing c = rw c.in-Nothing.is (record { line = record { same = refl; leaves = leaves_nothing _ _ }; short = omega arith })
 
 pub returns-in-Frame : goal.returns-in-Frame
 returns-in-Frame c = rw c.in-Frame.is (record { line = c.frame_line.ensures; short = frame_line_short _ _ (omega arith) })

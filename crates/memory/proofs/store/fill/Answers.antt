@@ -1,27 +1,10 @@
-use mathlib.Core.Path.{◌∙◌}
-use native.Mathlib.Nat.{add-zero, le_antisymm}
-use native.Mathlib.Omega.{arith}
-use borrow.Author.Rules.{rules}
-use Rattle.memory.specs.WroteLaws.{none, then_one, kept, replicate_more, sets_fitting_same}
+use Rattle.std.proofs.Common.{arith}
+use Rattle.std.proofs.lemmas.Grind.{common_steps}
+use Rattle.memory.proofs.StoreLaws.{filled, filled_none}
 use Rattle.memory.proofs.store.fill.Goals as goal
 
-pub loop-i-init : goal.loop-i-init
-loop-i-init c = (search rules, rw add-zero (none _ _))
+pub returns-then-n-gt0 : goal.returns-then-n-gt0
+returns-then-n-gt0 c = filled _ _ _ _ _ _ c.fit-n.ensures c.if-n-gt0.true (grind (arith, common_steps))
 
-pub overflow_add-to : goal.overflow_add-to
-overflow_add-to c = let k = kept c.loop-i.invariant.1 in omega arith
-
-pub bounds-to-start : goal.bounds-to-start
-bounds-to-start c = let k = kept c.loop-i.invariant.1 in omega arith
-
-pub loop-i-preserved : goal.loop-i-preserved
-loop-i-preserved c = (search rules, rw replicate_more (then_one _ _ c.loop-i.invariant.1))
-
-pub shape_of-to : goal.shape_of-to
-shape_of-to c = kept c.loop-i.invariant.1
-
-pub returns : goal.returns
-returns c =
-    let a = c.args in
-    let l = c.loop-i in
-    l.invariant.1.content ∙ rw (le_antisymm l.invariant.0 c.loop-i-test.false, c.fit-n.ensures) (sets_fitting_same a.count a.value a.to.now a.start)
+pub returns-else-n-gt0 : goal.returns-else-n-gt0
+returns-else-n-gt0 c = filled_none _ _ _ _ _ c.fit-n.ensures c.if-n-gt0.false

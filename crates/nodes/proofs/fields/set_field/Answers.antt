@@ -1,4 +1,3 @@
-use native.Mathlib.Nat.{sub-zero}
 use Rattle.nodes.specs.TableLaws.{used-below}
 use Rattle.nodes.specs.Table.{node_count, in_use, set_field}
 use Rattle.memory.specs.WroteLaws.{take_min}
@@ -29,4 +28,4 @@ unfolding set_field
 returns c =
     let used : in_use c.args.table.now c.args.node ≡ true = sym c.in_use.ensures ∙ c.if-not-in_use.false in
     simp (used)
-    (record { status = refl; table = c.copy.ensures ∙ rw (sub-zero, c.least-n.ensures, take_min) })
+    (record { status = refl; table = c.copy.ensures ∙ rw (c.min-n.ensures, take_min) })

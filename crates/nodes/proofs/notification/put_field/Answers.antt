@@ -11,4 +11,4 @@ returns c =
     let start = c.args.node * record_size + c.args.field.at in
     let e : start + c.args.field.size - start ≡ c.args.field.size = omega arith in
     let long = field_length c.args.table.now c.args.node c.args.field q.0 q.1 q.2 in
-    (record { content = c.copy.ensures ∙ rw e; place = rw long }, refl)
+    (record { content = c.copy.ensures ∙ rw (c.from.ensures, e); place = rw long }, refl)

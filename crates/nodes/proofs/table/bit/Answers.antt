@@ -3,4 +3,4 @@ use Rattle.nodes.proofs.table.bit.Goals as goal
 
 pub returns : goal.returns
 unfolding bit
-returns c = rw c.byte-byte.ensures
+returns c = rw c.byte.ensures

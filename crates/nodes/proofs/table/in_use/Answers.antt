@@ -3,10 +3,10 @@ use Rattle.nodes.specs.Table.{in_use}
 use borrow.Author.Tests.{lt-ltb, le-ltb}
 use Rattle.nodes.proofs.table.in_use.Goals as goal
 
-pub returns-then-node-ge-NODES : goal.returns-then-node-ge-NODES
+pub returns-then-node-lt-NODES : goal.returns-then-node-lt-NODES
 unfolding in_use
-returns-then-node-ge-NODES c = simp (le-ltb _ _ c.if-node-ge-NODES.true)
+returns-then-node-lt-NODES c = simp (lt-ltb _ _ c.if-node-lt-NODES.true, add-zero, c.byte.ensures)
 
-pub returns : goal.returns
+pub returns-else-node-lt-NODES : goal.returns-else-node-lt-NODES
 unfolding in_use
-returns c = simp (lt-ltb _ _ c.if-node-ge-NODES.false, add-zero, c.byte.ensures)
+returns-else-node-lt-NODES c = simp (le-ltb _ _ c.if-node-lt-NODES.false)

@@ -1,4 +1,6 @@
 use mathlib.Core.Path.{refl}
+use Rattle.std.proofs.Common.{arith}
+use Rattle.frame.specs.WireLaws.{high_byte}
 use Rattle.replies.specs.ReplyLaws.{bytes_of_one, nothing_fits}
 use Rattle.replies.proofs.writing.write.Goals as goal
 
@@ -33,7 +35,9 @@ pub returns-in-VirginStateSet : goal.returns-in-VirginStateSet
 returns-in-VirginStateSet c = rw (c.in-VirginStateSet.is, bytes_of_one) c.one-in-VirginStateSet.ensures
 
 pub returns-in-ModeSendConfirmed : goal.returns-in-ModeSendConfirmed
-returns-in-ModeSendConfirmed c = rw (c.in-ModeSendConfirmed.is, bytes_of_one) c.one-in-ModeSendConfirmed.ensures
+returns-in-ModeSendConfirmed c =
+    rw (c.in-ModeSendConfirmed.is, bytes_of_one, ← high_byte c.in-ModeSendConfirmed.session (omega arith)) (rw c.to_be_bytes.ensures at c.one-in-ModeSendConfirmed.ensures)
 
 pub returns-in-SessionFinished : goal.returns-in-SessionFinished
-returns-in-SessionFinished c = rw (c.in-SessionFinished.is, bytes_of_one) c.one-in-SessionFinished.ensures
+returns-in-SessionFinished c =
+    rw (c.in-SessionFinished.is, bytes_of_one, ← high_byte c.in-SessionFinished.session (omega arith)) (rw c.to_be_bytes-in-SessionFinished.ensures at c.one-in-SessionFinished.ensures)

@@ -1,11 +1,12 @@
 use Rattle.text.specs.Text.{ascii}
 use Rattle.report.specs.Report.{refused_line, line_end}
 use Rattle.report.proofs.calls.refused_line.Goals as goal
-
-pub returns-then-spilled : goal.returns-then-spilled
-unfolding refused_line line_end ascii
-returns-then-spilled c = rw c.if-spilled.true c.append_numbered.ensures
+use Rattle.report.proofs.calls.refused_line.Goals.{then-spilled, else-spilled}
 
 pub returns : goal.returns
 unfolding refused_line line_end ascii
-returns c = rw c.if-spilled.false c.append_numbered-2.ensures
+returns c =
+    elim c.if-spilled.branch [
+      | then-spilled w ↦ rw w.if-spilled.true (rw (c.from.ensures, w.end-is) at c.append_numbered.ensures)
+      | else-spilled w ↦ rw w.if-spilled.false (rw (c.from.ensures, w.end-is) at c.append_numbered.ensures)
+    ]

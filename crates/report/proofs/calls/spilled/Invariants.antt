@@ -1,13 +1,7 @@
-use Prim.Native.Nat.{◌-◌}
-use mathlib.Core.Bool.{◌||◌}
-use mathlib.Core.Path.{◌≡◌}
-use lib.ListN.{length, drop}
+use Rattle.std.proofs.Common.{◌≡◌, drop, ◌||◌}
 use Rattle.report.specs.Report.{has_other}
 use Rattle.report.proofs.calls.spilled.Given as goal
 
--- One was found up to i, or the rest decides.
-abbrev pub invariant-loop-i : goal.invariant-loop-i
-invariant-loop-i l = has_other l.filler (drop l.from l.room) ≡ (l.found || has_other l.filler (drop l.i l.room))
-
-abbrev pub decreases-loop-i : goal.decreases-loop-i
-decreases-loop-i l = length l.room - l.i
+-- One was found so far, or the rest decides.
+abbrev pub invariant-loop-byte : goal.invariant-loop-byte
+invariant-loop-byte l = has_other l.filler l.byte-items ≡ (l.found || has_other l.filler (drop l.byte-index l.byte-items))

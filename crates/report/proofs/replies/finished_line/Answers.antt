@@ -4,4 +4,4 @@ use Rattle.report.proofs.replies.finished_line.Goals as goal
 
 pub returns : goal.returns
 unfolding finished_line ascii
-returns c = c.reply_line.ensures
+returns c = rw c.from.ensures at c.reply_line.ensures

@@ -5,6 +5,6 @@ pub returns-then-set : goal.returns-then-set
 unfolding flag
 returns-then-set c = rw c.if-set.true
 
-pub returns : goal.returns
+pub returns-else-set : goal.returns-else-set
 unfolding flag
-returns c = rw c.if-set.false
+returns-else-set c = rw c.if-set.false

@@ -1,13 +1,11 @@
-use mathlib.Core.Path.{refl}
-use native.Mathlib.Omega.{arith}
 use Rattle.text.specs.Text.{ascii}
 use Rattle.report.specs.State.{skip_word}
 use Rattle.report.proofs.state.skip_word.Goals as goal
 
 pub returns-in-WrongEscape : goal.returns-in-WrongEscape
 unfolding skip_word ascii
-returns-in-WrongEscape c = rw c.in-WrongEscape.is (record { within = omega arith; text = refl })
+returns-in-WrongEscape c = rw c.in-WrongEscape.is
 
 pub returns-in-TooLong : goal.returns-in-TooLong
 unfolding skip_word ascii
-returns-in-TooLong c = rw c.in-TooLong.is (record { within = omega arith; text = refl })
+returns-in-TooLong c = rw c.in-TooLong.is

@@ -43,55 +43,52 @@ bounds-payload-0-in-525 c =
     let n = fits_fixed 0x020D 4 _ refl (rw c.in-525.is at c.requires) in
     omega (arith, n)
 
-pub mode_send-requires : goal.mode_send-requires
+pub mode_send_of-requires : goal.mode_send_of-requires
 unfolding find directory
-mode_send-requires c = fits_fixed 0x0320 mode_send_size _ refl (rw c.in-800.is at c.requires)
+mode_send_of-requires c = fits_fixed 0x0320 mode_send_size _ refl (rw c.in-800.is at c.requires)
 
 pub returns-in-12288 : goal.returns-in-12288
 unfolding request find directory
-returns-in-12288 c = λ ls. rw (c.in-12288.is, c.password_status.ensures) (entered_decides _ _ _ _ (fits_fixed 0x3000 password_size _ refl (rw c.in-12288.is at c.requires)))
+returns-in-12288 c = rw (c.in-12288.is, c.password_status.ensures) (entered_decides _ _ _ _ (fits_fixed 0x3000 password_size _ refl (rw c.in-12288.is at c.requires)))
 
 pub returns-in-12290 : goal.returns-in-12290
 unfolding request find directory
-returns-in-12290 c = λ ls. rw (c.in-12290.is, c.password_status-in-12290.ensures) (changed_decides _ _ _ _ (fits_fixed 0x3002 change_size _ refl (rw c.in-12290.is at c.requires)))
+returns-in-12290 c = rw (c.in-12290.is, c.password_status-in-12290.ensures) (changed_decides _ _ _ _ (fits_fixed 0x3002 change_size _ refl (rw c.in-12290.is at c.requires)))
 
 pub returns-in-512 : goal.returns-in-512
 unfolding request
-returns-in-512 c = λ ls. rw c.in-512.is (record { says = refl; left = refl; enough = tt })
+returns-in-512 c = rw c.in-512.is (record { says = refl; left = refl; enough = tt })
 
 pub returns-in-518 : goal.returns-in-518
 unfolding request
-returns-in-518 c = λ ls. rw (c.in-518.is, c.set_variation.ensures) (varied_decides _ _ _ _)
+returns-in-518 c = rw (c.in-518.is, c.set_variation.ensures) (varied_decides _ _ _ _)
 
 pub returns-in-520 : goal.returns-in-520
 unfolding request find directory
 returns-in-520 c =
-    λ ls.
     let n = fits_fixed 0x0208 65 _ refl (rw c.in-520.is at c.requires) in
     rw (c.in-520.is, c.set_name.ensures) (named_decides _ _ _ _ (omega (arith, n)))
 
 pub returns-in-525 : goal.returns-in-525
 unfolding request find directory
 returns-in-525 c =
-    λ ls.
     let n = fits_fixed 0x020D 4 _ refl (rw c.in-525.is at c.requires) in
     rw (c.in-525.is, c.set_order_and_placement.ensures) (placed_decides _ _ _ _ (omega (arith, n)))
 
 pub returns-in-262 : goal.returns-in-262
 unfolding request
-returns-in-262 c = λ ls. rw c.in-262.is (removed_decides _ _ _ _)
+returns-in-262 c = rw c.in-262.is (removed_decides _ _ _ _)
 
 pub returns-in-264 : goal.returns-in-264
 unfolding request
-returns-in-264 c = λ ls. rw c.in-264.is (zeroed_decides _ _ _ _)
+returns-in-264 c = rw c.in-264.is (zeroed_decides _ _ _ _)
 
 pub returns-in-800 : goal.returns-in-800
 unfolding request find directory
-returns-in-800 c = λ ls. rw (c.in-800.is, c.mode_send.ensures) (sent_decides _ _ _ _ (fits_fixed 0x0320 mode_send_size _ refl (rw c.in-800.is at c.requires)))
+returns-in-800 c = rw (c.in-800.is, c.mode_send.ensures, c.mode_send_of.ensures) (sent_decides _ _ _ _ (fits_fixed 0x0320 mode_send_size _ refl (rw c.in-800.is at c.requires)))
 
 pub returns-in_default : goal.returns-in_default
 unfolding request
 returns-in_default c =
-    λ ls.
     let n = c.in_default.in_default-own.rest in
     rw (ne_eqb _ _ n.0.0.0.0.0.0.0.0.1, ne_eqb _ _ n.0.0.0.0.0.0.0.1, ne_eqb _ _ n.0.0.0.0.0.0.1, ne_eqb _ _ n.0.0.0.0.0.1, ne_eqb _ _ n.0.0.0.0.1, ne_eqb _ _ n.0.0.0.1, ne_eqb _ _ n.0.0.1, ne_eqb _ _ n.0.1, ne_eqb _ _ n.1) (failed_decides _ _ _ _ _)

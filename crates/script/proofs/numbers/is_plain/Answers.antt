@@ -1,21 +1,20 @@
-use native.Mathlib.Omega.{arith}
-use lib.ListN.{length}
-use borrow.Author.Tests.{lt-ltb, le-ltb, lt-leb, le-leb}
+use Rattle.std.proofs.Common.{arith, length, lt-ltb, le-ltb, le-leb}
+use Rattle.std.proofs.lemmas.Bool.{lt-leb}
 use Rattle.script.specs.Script.{is_plain}
 use Rattle.script.proofs.numbers.is_plain.Goals as goal
 
-pub returns-then-len-eq0 : goal.returns-then-len-eq0
+pub returns-in-1 : goal.returns-in-1
 unfolding is_plain
-returns-then-len-eq0 c = simp (le-ltb 0 (length c.args.text.now) (omega arith))
+returns-in-1 c = rw c.in-1.is
 
-pub returns-then-len-gt-DIGITS_MOST : goal.returns-then-len-gt-DIGITS_MOST
+pub returns-in-2-to-5 : goal.returns-in-2-to-5
 unfolding is_plain
-returns-then-len-gt-DIGITS_MOST c = simp (lt-ltb 0 (length c.args.text.now) (omega arith), lt-leb _ _ c.if-len-gt-DIGITS_MOST.true)
+returns-in-2-to-5 c = simp (lt-ltb 0 (length c.args.text.now) (omega arith), le-leb (length c.args.text.now) 5 (omega arith), lt-ltb 1 (length c.args.text.now) (omega arith))
 
-pub returns-then-len-eq1 : goal.returns-then-len-eq1
+pub returns-in_default : goal.returns-in_default
 unfolding is_plain
-returns-then-len-eq1 c = simp (lt-ltb 0 (length c.args.text.now) (omega arith), le-leb _ _ c.if-len-gt-DIGITS_MOST.false, le-ltb 1 (length c.args.text.now) (omega arith))
+returns-in_default c = simp (le-ltb 0 (length c.args.text.now) (omega arith))
 
-pub returns : goal.returns
+pub returns-in_default-2 : goal.returns-in_default-2
 unfolding is_plain
-returns c = simp (lt-ltb 0 (length c.args.text.now) (omega arith), le-leb _ _ c.if-len-gt-DIGITS_MOST.false, lt-ltb 1 (length c.args.text.now) (omega arith))
+returns-in_default-2 c = simp (lt-ltb 0 (length c.args.text.now) (omega arith), lt-leb (length c.args.text.now) 5 (omega arith))

@@ -1,7 +1,6 @@
-use mathlib.Core.Path.{◌≡◌, sym, ◌∙◌}
-use mathlib.Core.Bool.{true}
-use borrow.Author.Tests.{le-leb, lt-leb}
-use Rattle.script.specs.Script.{is_plain, number, number_up_to}
+use Rattle.std.proofs.Common.{sym, ◌∙◌, le-leb}
+use Rattle.std.proofs.lemmas.Bool.{lt-leb}
+use Rattle.script.specs.Script.{number, number_up_to}
 use Rattle.script.specs.ByteLaws.{plain_short}
 use Rattle.script.proofs.numbers.number_in.Goals as goal
 
@@ -10,24 +9,19 @@ unfolding number_up_to number
 returns-then-not-is_plain c = rw (sym c.is_plain.ensures ∙ c.if-not-is_plain.true)
 
 pub digits-requires : goal.digits-requires
-digits-requires c =
-    let plain : is_plain c.args.text.now ≡ true = sym c.is_plain.ensures ∙ c.if-not-is_plain.false in
-    plain_short _ (plain)
+digits-requires c = plain_short _ (sym c.is_plain.ensures ∙ c.if-not-is_plain.false)
 
-pub returns-in_default : goal.returns-in_default
+pub returns-in_err-value : goal.returns-in_err-value
 unfolding number_up_to number
-returns-in_default c =
-    let plain : is_plain c.args.text.now ≡ true = sym c.is_plain.ensures ∙ c.if-not-is_plain.false in
-    rw (plain, ← c.digits.ensures, c.in_default.is)
+returns-in_err-value c =
+    rw (sym c.is_plain.ensures ∙ c.if-not-is_plain.false, sym c.digits.ensures ∙ c.in_err-value.was) c.from_residual.ensures
 
 pub returns-then-most-value : goal.returns-then-most-value
 unfolding number_up_to number
 returns-then-most-value c =
-    let plain : is_plain c.args.text.now ≡ true = sym c.is_plain.ensures ∙ c.if-not-is_plain.false in
-    rw (plain, ← c.digits.ensures, c.in-Value.is, lt-leb _ _ c.if-most-value.true)
+    rw (sym c.is_plain.ensures ∙ c.if-not-is_plain.false, sym c.digits.ensures ∙ c.in_ok-value.was, lt-leb _ _ c.if-most-value.true)
 
 pub returns : goal.returns
 unfolding number_up_to number
 returns c =
-    let plain : is_plain c.args.text.now ≡ true = sym c.is_plain.ensures ∙ c.if-not-is_plain.false in
-    rw (plain, ← c.digits.ensures, c.in-Value.is, le-leb _ _ c.if-most-value.false)
+    rw (sym c.is_plain.ensures ∙ c.if-not-is_plain.false, sym c.digits.ensures ∙ c.in_ok-value.was, le-leb _ _ c.if-most-value.false)

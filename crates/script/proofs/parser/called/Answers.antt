@@ -1,57 +1,67 @@
-use mathlib.Core.Path.{◌≡◌, refl, sym, ◌∙◌}
-use mathlib.Core.Bool.{Bool}
+use Rattle.std.proofs.Common.{refl}
+use Rattle.memory.specs.Octets.{same}
 use Rattle.text.specs.Text.{ascii}
 use Rattle.script.specs.Script.{called}
+use Rattle.script.proofs.Same.{same-by}
 use Rattle.script.proofs.parser.called.Goals as goal
 
--- what a test of the word says of it
-is : {x y t : Bool} → x ≡ y → x ≡ t → y ≡ t
-is e f = sym e ∙ f
+-- a missing word is no call
+pub returns-in_default : goal.returns-in_default
+unfolding called ascii same
+returns-in_default c = rw (rw c.in_default.is at c.next_word.ensures) (record { line = refl; within = tt })
 
-pub returns-then-is_same : goal.returns-then-is_same
+pub returns-then-eq : goal.returns-then-eq
 unfolding called ascii
-returns-then-is_same c =
-    rw (is c.is_same.ensures c.if-is_same.true)
+returns-then-eq c =
+    let w = rw c.in-Some.is at c.next_word.ensures in
+    rw (w.0, w.1, same-by _ (ascii "start") c.eq.ensures c.if-eq.true)
     c.start.ensures
 
-pub returns-then-is_same-2 : goal.returns-then-is_same-2
+pub returns-then-eq-2 : goal.returns-then-eq-2
 unfolding called ascii
-returns-then-is_same-2 c =
-    rw (is c.is_same.ensures c.if-is_same.false, is c.is_same-2.ensures c.if-is_same-2.true)
+returns-then-eq-2 c =
+    let w = rw c.in-Some.is at c.next_word.ensures in
+    rw (w.0, w.1, same-by _ (ascii "start") c.eq.ensures c.if-eq.false, same-by _ (ascii "enrol") c.eq-2.ensures c.if-eq-2.true)
     (c.enrol.ensures _)
 
-pub returns-then-is_same-3 : goal.returns-then-is_same-3
+pub returns-then-eq-3 : goal.returns-then-eq-3
 unfolding called ascii
-returns-then-is_same-3 c =
-    rw (is c.is_same.ensures c.if-is_same.false, is c.is_same-2.ensures c.if-is_same-2.false, is c.is_same-3.ensures c.if-is_same-3.true)
+returns-then-eq-3 c =
+    let w = rw c.in-Some.is at c.next_word.ensures in
+    rw (w.0, w.1, same-by _ (ascii "start") c.eq.ensures c.if-eq.false, same-by _ (ascii "enrol") c.eq-2.ensures c.if-eq-2.false, same-by _ (ascii "feed") c.eq-3.ensures c.if-eq-3.true)
     c.feed.ensures
 
-pub returns-then-is_same-4 : goal.returns-then-is_same-4
+pub returns-then-eq-4 : goal.returns-then-eq-4
 unfolding called ascii
-returns-then-is_same-4 c =
-    rw (is c.is_same.ensures c.if-is_same.false, is c.is_same-2.ensures c.if-is_same-2.false, is c.is_same-3.ensures c.if-is_same-3.false, is c.is_same-4.ensures c.if-is_same-4.true)
+returns-then-eq-4 c =
+    let w = rw c.in-Some.is at c.next_word.ensures in
+    rw (w.0, w.1, same-by _ (ascii "start") c.eq.ensures c.if-eq.false, same-by _ (ascii "enrol") c.eq-2.ensures c.if-eq-2.false, same-by _ (ascii "feed") c.eq-3.ensures c.if-eq-3.false, same-by _ (ascii "close") c.eq-4.ensures c.if-eq-4.true)
     (c.close.ensures _)
 
-pub returns-then-is_same-5 : goal.returns-then-is_same-5
+pub returns-then-eq-5 : goal.returns-then-eq-5
 unfolding called ascii
-returns-then-is_same-5 c =
-    rw (is c.is_same.ensures c.if-is_same.false, is c.is_same-2.ensures c.if-is_same-2.false, is c.is_same-3.ensures c.if-is_same-3.false, is c.is_same-4.ensures c.if-is_same-4.false, is c.is_same-5.ensures c.if-is_same-5.true)
+returns-then-eq-5 c =
+    let w = rw c.in-Some.is at c.next_word.ensures in
+    rw (w.0, w.1, same-by _ (ascii "start") c.eq.ensures c.if-eq.false, same-by _ (ascii "enrol") c.eq-2.ensures c.if-eq-2.false, same-by _ (ascii "feed") c.eq-3.ensures c.if-eq-3.false, same-by _ (ascii "close") c.eq-4.ensures c.if-eq-4.false, same-by _ (ascii "finish") c.eq-5.ensures c.if-eq-5.true)
     (c.finish.ensures _)
 
-pub returns-then-is_same-6 : goal.returns-then-is_same-6
+pub returns-then-eq-6 : goal.returns-then-eq-6
 unfolding called ascii
-returns-then-is_same-6 c =
-    rw (is c.is_same.ensures c.if-is_same.false, is c.is_same-2.ensures c.if-is_same-2.false, is c.is_same-3.ensures c.if-is_same-3.false, is c.is_same-4.ensures c.if-is_same-4.false, is c.is_same-5.ensures c.if-is_same-5.false, is c.is_same-6.ensures c.if-is_same-6.true)
+returns-then-eq-6 c =
+    let w = rw c.in-Some.is at c.next_word.ensures in
+    rw (w.0, w.1, same-by _ (ascii "start") c.eq.ensures c.if-eq.false, same-by _ (ascii "enrol") c.eq-2.ensures c.if-eq-2.false, same-by _ (ascii "feed") c.eq-3.ensures c.if-eq-3.false, same-by _ (ascii "close") c.eq-4.ensures c.if-eq-4.false, same-by _ (ascii "finish") c.eq-5.ensures c.if-eq-5.false, same-by _ (ascii "show") c.eq-6.ensures c.if-eq-6.true)
     (c.show.ensures _)
 
-pub returns-then-is_same-7 : goal.returns-then-is_same-7
+pub returns-then-eq-7 : goal.returns-then-eq-7
 unfolding called ascii
-returns-then-is_same-7 c =
-    rw (is c.is_same.ensures c.if-is_same.false, is c.is_same-2.ensures c.if-is_same-2.false, is c.is_same-3.ensures c.if-is_same-3.false, is c.is_same-4.ensures c.if-is_same-4.false, is c.is_same-5.ensures c.if-is_same-5.false, is c.is_same-6.ensures c.if-is_same-6.false, is c.is_same-7.ensures c.if-is_same-7.true)
+returns-then-eq-7 c =
+    let w = rw c.in-Some.is at c.next_word.ensures in
+    rw (w.0, w.1, same-by _ (ascii "start") c.eq.ensures c.if-eq.false, same-by _ (ascii "enrol") c.eq-2.ensures c.if-eq-2.false, same-by _ (ascii "feed") c.eq-3.ensures c.if-eq-3.false, same-by _ (ascii "close") c.eq-4.ensures c.if-eq-4.false, same-by _ (ascii "finish") c.eq-5.ensures c.if-eq-5.false, same-by _ (ascii "show") c.eq-6.ensures c.if-eq-6.false, same-by _ (ascii "table") c.eq-7.ensures c.if-eq-7.true)
     (c.nodes.ensures _)
 
 pub returns : goal.returns
 unfolding called ascii
 returns c =
-    rw (is c.is_same.ensures c.if-is_same.false, is c.is_same-2.ensures c.if-is_same-2.false, is c.is_same-3.ensures c.if-is_same-3.false, is c.is_same-4.ensures c.if-is_same-4.false, is c.is_same-5.ensures c.if-is_same-5.false, is c.is_same-6.ensures c.if-is_same-6.false, is c.is_same-7.ensures c.if-is_same-7.false)
+    let w = rw c.in-Some.is at c.next_word.ensures in
+    rw (w.0, w.1, same-by _ (ascii "start") c.eq.ensures c.if-eq.false, same-by _ (ascii "enrol") c.eq-2.ensures c.if-eq-2.false, same-by _ (ascii "feed") c.eq-3.ensures c.if-eq-3.false, same-by _ (ascii "close") c.eq-4.ensures c.if-eq-4.false, same-by _ (ascii "finish") c.eq-5.ensures c.if-eq-5.false, same-by _ (ascii "show") c.eq-6.ensures c.if-eq-6.false, same-by _ (ascii "table") c.eq-7.ensures c.if-eq-7.false)
     (record { line = refl; within = tt })

@@ -1,50 +1,48 @@
-use native.Mathlib.Omega.{arith}
-use mathlib.Core.Path.{refl}
+use Rattle.std.proofs.Common.{refl, sym, ◌∙◌, arith}
 use Rattle.script.specs.Script.{enrol_of}
 use Rattle.script.specs.ByteLaws.{up_to_most}
-use Rattle.script.specs.WordLaws.{ended_is, ended-not}
 use Rattle.script.specs.CallLaws.{table_most_lem}
 use Rattle.script.proofs.parser.enrol.Goals as goal
 
 pub returns-in_default : goal.returns-in_default
 unfolding enrol_of
-returns-in_default c = λ b. rw (rw c.in_default.is at c.number_at.ensures) (record { line = refl; within = tt })
+returns-in_default c = λ b. rw (rw c.in_default.is at c.number.ensures) (record { line = refl; within = tt })
 
-pub returns-in_default-number_at : goal.returns-in_default-number_at
+pub returns-in_default-number : goal.returns-in_default-number
 unfolding enrol_of
-returns-in_default-number_at c =
-    let w1 = rw c.in-Word.is at c.number_at.ensures in
-    λ b. rw (w1.0, w1.1, rw c.in_default-number_at.is at c.number_at-2.ensures) (record { line = refl; within = tt })
+returns-in_default-number c =
+    let w1 = rw c.in-Some.is at c.number.ensures in
+    λ b. rw (w1.0, w1.1, rw c.in_default-number.is at c.number-2.ensures) (record { line = refl; within = tt })
 
-pub returns-in_default-table_at : goal.returns-in_default-table_at
+pub returns-in_default-table : goal.returns-in_default-table
 unfolding enrol_of
-returns-in_default-table_at c =
-    let w1 = rw c.in-Word.is at c.number_at.ensures in
-    let w2 = rw c.in-Word-number_at.is at c.number_at-2.ensures in
-    λ b. rw (w1.0, w1.1, w2.0, w2.1, rw c.in_default-table_at.is at c.table_at.ensures) (record { line = refl; within = tt })
+returns-in_default-table c =
+    let w1 = rw c.in-Some.is at c.number.ensures in
+    let w2 = rw c.in-Some-number.is at c.number-2.ensures in
+    λ b. rw (w1.0, w1.1, w2.0, w2.1, rw c.in_default-table.is at c.table.ensures) (record { line = refl; within = tt })
 
-pub returns-then-fourth-line : goal.returns-then-fourth-line
+pub returns-then-not-is_done : goal.returns-then-not-is_done
 unfolding enrol_of
-returns-then-fourth-line c =
-    let w1 = rw c.in-Word.is at c.number_at.ensures in
-    let w2 = rw c.in-Word-number_at.is at c.number_at-2.ensures in
-    let w3 = rw c.in-Word-table_at.is at c.table_at.ensures in
-    λ b. rw (w1.0, w1.1, w2.0, w2.1, w3.0, w3.1, ended-not _ _ c.if-fourth-line.true) (record { line = refl; within = tt })
+returns-then-not-is_done c =
+    let w1 = rw c.in-Some.is at c.number.ensures in
+    let w2 = rw c.in-Some-number.is at c.number-2.ensures in
+    let w3 = rw c.in-Some-table.is at c.table.ensures in
+    λ b. rw (w1.0, w1.1, w2.0, w2.1, w3.0, w3.1, sym c.is_done.ensures ∙ c.if-not-is_done.true) (record { line = refl; within = tt })
 
 pub overflow_cast-result : goal.overflow_cast-result
 overflow_cast-result c =
-    let w1 = rw c.in-Word.is at c.number_at.ensures in
+    let w1 = rw c.in-Some.is at c.number.ensures in
     omega (arith, up_to_most _ _ _ w1.0)
 
 pub overflow_cast-result-2 : goal.overflow_cast-result-2
 overflow_cast-result-2 c =
-    let w1 = rw c.in-Word-number_at.is at c.number_at-2.ensures in
+    let w1 = rw c.in-Some-number.is at c.number-2.ensures in
     omega (arith, up_to_most _ _ _ w1.0)
 
 pub returns : goal.returns
 unfolding enrol_of
 returns c =
-    let w1 = rw c.in-Word.is at c.number_at.ensures in
-    let w2 = rw c.in-Word-number_at.is at c.number_at-2.ensures in
-    let w3 = rw c.in-Word-table_at.is at c.table_at.ensures in
-    λ b. rw (w1.0, w1.1, w2.0, w2.1, w3.0, w3.1, ended_is _ _ c.if-fourth-line.false) (record { line = refl; within = table_most_lem _ _ w3.0 })
+    let w1 = rw c.in-Some.is at c.number.ensures in
+    let w2 = rw c.in-Some-number.is at c.number-2.ensures in
+    let w3 = rw c.in-Some-table.is at c.table.ensures in
+    λ b. rw (w1.0, w1.1, w2.0, w2.1, w3.0, w3.1, sym c.is_done.ensures ∙ c.if-not-is_done.false) (record { line = refl; within = table_most_lem _ _ w3.0 })

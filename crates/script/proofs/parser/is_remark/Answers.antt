@@ -1,10 +1,10 @@
-use native.Mathlib.Omega.{arith}
-use mathlib.Core.Path.{sym}
+use Rattle.std.proofs.Common.{sym, ◌∙◌, arith, eqb-true}
+use Rattle.std.proofs.lemmas.Bool.{eqb-false}
 use Rattle.script.specs.CallLaws.{remark_empty, remark_first}
 use Rattle.script.proofs.parser.is_remark.Goals as goal
 
-pub returns-then-line-eq0 : goal.returns-then-line-eq0
-returns-then-line-eq0 c = sym (remark_empty c.args.line.now c.if-line-eq0.true)
+pub returns-then-is_empty : goal.returns-then-is_empty
+returns-then-is_empty c = c.if-is_empty.true ∙ sym (remark_empty c.args.line.now (eqb-true _ _ (sym c.is_empty.ensures ∙ c.if-is_empty.true)))
 
-pub returns : goal.returns
-returns c = sym (remark_first c.args.line.now (omega arith))
+pub returns-else-is_empty : goal.returns-else-is_empty
+returns-else-is_empty c = sym (remark_first c.args.line.now (omega (arith, eqb-false _ 0 (sym c.is_empty.ensures ∙ c.if-is_empty.false))))

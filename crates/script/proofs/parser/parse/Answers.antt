@@ -1,8 +1,6 @@
-use native.Mathlib.Omega.{arith}
-use mathlib.Core.Path.{refl, sym, ◌∙◌}
-use lib.Seq.{length-take-le}
-use Rattle.script.specs.WordLaws.{end_within}
-use Rattle.script.specs.CallLaws.{parse-long, parse_remark, parse_word}
+use Rattle.std.proofs.Common.{refl, sym, ◌∙◌, arith}
+use Rattle.script.specs.WordLaws.{from_within}
+use Rattle.script.specs.CallLaws.{parse-long, parse_remark, parse-words}
 use Rattle.script.proofs.parser.parse.Goals as goal
 
 pub returns-then-line-gt-LONGEST : goal.returns-then-line-gt-LONGEST
@@ -11,11 +9,7 @@ returns-then-line-gt-LONGEST c = rw (parse-long _ c.if-line-gt-LONGEST.true) (re
 pub returns-then-is_remark : goal.returns-then-is_remark
 returns-then-is_remark c = rw (parse_remark _ c.if-line-gt-LONGEST.false (sym c.is_remark.ensures ∙ c.if-is_remark.true)) (record { line = refl; within = tt })
 
-pub slice_bounds-called-end : goal.slice_bounds-called-end
-slice_bounds-called-end c = sym (length-take-le _ _ (rw c.word_end-end.ensures (end_within _ 0)))
-
-pub overflow_add-end : goal.overflow_add-end
-overflow_add-end c = let h = end_within c.args.line.now 0 in omega arith
-
 pub returns : goal.returns
-returns c = rw (parse_word _ c.if-line-gt-LONGEST.false (sym c.is_remark.ensures ∙ c.if-is_remark.false), ← c.word_end-end.ensures) c.called.ensures
+returns c =
+    let whole = from_within c.args.line.now 0 (omega arith) in
+    rw (parse-words _ c.if-line-gt-LONGEST.false (sym c.is_remark.ensures ∙ c.if-is_remark.false)) (rw whole at c.called.ensures)

@@ -1,18 +1,9 @@
+use Rattle.std.specs.Prelude.{is_some}
+use Rattle.sessions.specs.Sessions.{holds}
+use Rattle.sessions.proofs.SearchWords.{some_position}
 use borrow.Author.Rules.{rules}
-use Rattle.sessions.specs.Sessions.{slots_of, holds}
-use Rattle.sessions.specs.SlotLaws.{slots_count, slot_within}
-use Rattle.sessions.specs.SearchLaws.{any_on, any_found, any_end}
-use mathlib.Core.Path.{refl, sym, ap, ◌∙◌}
+use mathlib.Core.Path.{ap, ◌∙◌}
 use Rattle.sessions.proofs.opening.is_held.Goals as goal
 
-pub loop-k-init : goal.loop-k-init
-loop-k-init c = (search rules, refl)
-
-pub returns-then-holds : goal.returns-then-holds
-returns-then-holds c = sym (c.loop-k.invariant.1 ∙ any_found _ _ _ _ (slot_within c.args.slots.now _ c.loop-k-test.true) (ap (holds _) (sym c.slot_at.ensures) ∙ sym c.holds.ensures ∙ c.if-holds.true))
-
-pub loop-k-preserved : goal.loop-k-preserved
-loop-k-preserved c = (search rules, c.loop-k.invariant.1 ∙ any_on _ _ _ _ (slot_within c.args.slots.now _ c.loop-k-test.true) (ap (holds _) (sym c.slot_at.ensures) ∙ sym c.holds.ensures ∙ c.if-holds.false))
-
 pub returns : goal.returns
-returns c = sym (c.loop-k.invariant.1 ∙ any_end _ (slots_of c.args.slots.now) c.loop-k.k (rw (slots_count c.args.slots.now) c.loop-k-test.false))
+returns c = c.is_some.ensures ∙ ap is_some (c.first_where.ensures (holds c.args.node) (λ s r e. search rules)) ∙ some_position _ _

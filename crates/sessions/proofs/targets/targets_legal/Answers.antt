@@ -8,14 +8,13 @@ use lib.ListN.{length, take, get_or, set, replicate, length-set, get_or-replicat
 use lib.Seq.{take-suc, get_or-set_same, get_or-set_other}
 use lib.Dec.{ltb, eqb}
 use borrow.Author.Tests.{ltb-true, eqb-true, eqb-false}
-use borrow.Author.Rules.{rules}
-use Rattle.nodes.specs.Table.{in_use}
 use Rattle.sessions.specs.Search.{any, member}
 use Rattle.sessions.specs.SearchLaws.{member-last}
 use Rattle.sessions.specs.Sessions.{target_count}
 use Rattle.sessions.specs.SessionLaws.{targets_on, targets_off, targets_twice, targets_end}
 use Rattle.sessions.proofs.targets.targets_legal.Invariants.{Seen}
 use Rattle.sessions.proofs.targets.targets_legal.Goals as goal
+use Rattle.sessions.proofs.targets.targets_legal.Goals.{then-not-is_target-via-then-not-is_target, then-not-is_target-via-else-not-is_target+then-seen-node}
 
 -- an index that is a target is below 200
 near_target : (n : ℕ) (a b : Bool) → ltb n target_count ≡ a → (a && b) ≡ true → n < target_count
@@ -41,46 +40,31 @@ seen_more seen is i h k s =
         rw e (rw (eqb-true n (get_or is i 0) e) (get_or-set_same seen (get_or is i 0) true false (omega (arith, s.whole, k))))
     go n l false e = rw e (get_or-set_other seen (get_or is i 0) n true false (eqb-false n (get_or is i 0) e) ∙ s.those n l)
 
-pub loop-i-init : goal.loop-i-init
-loop-i-init c = (search rules, none_seen, refl)
-
-pub overflow_cast-node : goal.overflow_cast-node
-overflow_cast-node c = omega (arith, c.type_inv.indices c.loop-i.i)
+pub loop-target-init : goal.loop-target-init
+loop-target-init c = (none_seen, refl)
 
 pub returns-then-not-is_target : goal.returns-then-not-is_target
-returns-then-not-is_target c = sym (c.loop-i.invariant.2 ∙ targets_off _ _ _ c.loop-i-test.true (sym c.is_target.ensures ∙ c.if-not-is_target.true))
+returns-then-not-is_target c =
+    let node : c.from-node.result ≡ get_or c.args.indices.now c.loop-target.target-index 0 = c.from-node.ensures in
+    elim c.then-not-is_target.branch [
+      | then-not-is_target-via-then-not-is_target w ↦
+          let no_target = rw node at (sym c.is_target.ensures ∙ w.if-not-is_target.true) in
+          sym (c.loop-target.invariant.1 ∙ targets_off _ _ _ c.loop-target-test.true no_target)
+      | then-not-is_target-via-else-not-is_target+then-seen-node w ↦
+          let target = rw node at (sym c.is_target.ensures ∙ w.if-not-is_target.false) in
+          let near = near_target _ _ _ refl target in
+          sym (c.loop-target.invariant.1 ∙ targets_twice _ _ _ c.loop-target-test.true (sym (c.loop-target.invariant.0.those _ near) ∙ rw node at w.if-seen-node.true))
+    ]
 
-pub bounds-seen-node : goal.bounds-seen-node
-bounds-seen-node c =
-    let node : ℕ = get_or c.args.indices.now c.loop-i.i 0 in
-    let target : (ltb node target_count && in_use c.args.table.now node) ≡ true = sym c.is_target.ensures ∙ c.if-not-is_target.false in
-    let near : node < target_count = near_target node _ _ refl target in
-    near
-
-pub returns-then-seen-node : goal.returns-then-seen-node
-returns-then-seen-node c =
-    let node : ℕ = get_or c.args.indices.now c.loop-i.i 0 in
-    let target : (ltb node target_count && in_use c.args.table.now node) ≡ true = sym c.is_target.ensures ∙ c.if-not-is_target.false in
-    let near : node < target_count = near_target node _ _ refl target in
-    sym (c.loop-i.invariant.2 ∙ targets_twice _ _ _ c.loop-i-test.true (sym (c.loop-i.invariant.1.those _ near) ∙ c.if-seen-node.true))
-
-pub bounds-seen-node-in-loop-i : goal.bounds-seen-node-in-loop-i
-bounds-seen-node-in-loop-i c =
-    let node : ℕ = get_or c.args.indices.now c.loop-i.i 0 in
-    let target : (ltb node target_count && in_use c.args.table.now node) ≡ true = sym c.is_target.ensures ∙ c.if-not-is_target.false in
-    let near : node < target_count = near_target node _ _ refl target in
-    near
-
-pub loop-i-preserved : goal.loop-i-preserved
-loop-i-preserved c =
-    let node : ℕ = get_or c.args.indices.now c.loop-i.i 0 in
-    let target : (ltb node target_count && in_use c.args.table.now node) ≡ true = sym c.is_target.ensures ∙ c.if-not-is_target.false in
-    let near : node < target_count = near_target node _ _ refl target in
-    let l = c.loop-i-test.true in (
-      search rules,
-      seen_more _ _ _ l near c.loop-i.invariant.1,
-      c.loop-i.invariant.2 ∙ targets_on _ _ _ l target (sym (c.loop-i.invariant.1.those _ near) ∙ c.if-seen-node.false),
+pub loop-target-preserved : goal.loop-target-preserved
+loop-target-preserved c =
+    let node : c.from-node.result ≡ get_or c.args.indices.now c.loop-target.target-index 0 = c.from-node.ensures in
+    let target = rw node at (sym c.is_target.ensures ∙ c.if-not-is_target.false) in
+    let near = near_target _ _ _ refl target in
+    let l = c.loop-target-test.true in (
+      rw node (seen_more _ _ _ l near c.loop-target.invariant.0),
+      c.loop-target.invariant.1 ∙ targets_on _ _ _ l target (sym (c.loop-target.invariant.0.those _ near) ∙ rw node at c.if-seen-node.false),
     )
 
 pub returns : goal.returns
-returns c = sym (c.loop-i.invariant.2 ∙ targets_end _ _ _ c.loop-i-test.false)
+returns c = sym (c.loop-target.invariant.1 ∙ targets_end _ _ _ c.loop-target-test.false)

@@ -1,4 +1,4 @@
-use Prim.Native.Nat.{ℕ, ◌≤◌, ◌<◌, ◌-◌}
+use Prim.Native.Nat.{ℕ, ◌<◌}
 use mathlib.Core.Bool.{Bool, false}
 use mathlib.Core.List.{List, []}
 use mathlib.Core.Path.{◌≡◌}
@@ -13,8 +13,7 @@ pub record Seen (seen : List Bool) (ns : List ℕ) : Type 0 where
   pub those : (n : ℕ) → n < target_count → get_or seen n false ≡ member n ns
 
 -- The indices before the place are legal, and are seen.
-abbrev pub invariant-loop-i : goal.invariant-loop-i
-invariant-loop-i l = (l.i ≤ length l.indices) × Seen l.seen (take l.i l.indices) × (targets_legal l.table [] l.indices ≡ targets_legal l.table (take l.i l.indices) (drop l.i l.indices))
-
-abbrev pub decreases-loop-i : goal.decreases-loop-i
-decreases-loop-i l = length l.indices - l.i
+abbrev pub invariant-loop-target : goal.invariant-loop-target
+invariant-loop-target l =
+    Seen l.seen (take l.target-index l.indices)
+    × (targets_legal l.table [] l.indices ≡ targets_legal l.table (take l.target-index l.indices) (drop l.target-index l.indices))

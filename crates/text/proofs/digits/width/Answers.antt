@@ -1,37 +1,21 @@
-use Prim.Native.Nat.{◌^◌, ◌≤◌, ◌<◌}
-use mathlib.Core.Path.{refl}
-use native.Mathlib.Numerals.{add-one}
-use native.Mathlib.Nat.{pow-suc, pow-le-pow_right}
-use native.Mathlib.Omega.{arith}
-use lib.ListN.{length}
-use borrow.Author.Rules.{rules}
+use Rattle.std.proofs.Common.{ℕ, zero, suc, ◌+◌, ◌*◌, ◌^◌, ◌<◌, ◌≤◌, ◌≡◌, length, max, pow-suc, arith}
+use Rattle.std.proofs.Math.Nat.{one-le-pow}
 use Rattle.text.specs.Text.{decimal}
-use Rattle.text.specs.DecimalLaws.{decimal-some, decimal_above, decimal-below, decimal_short}
+use Rattle.text.specs.DecimalLaws.{decimal_few, decimal_above, decimal-below}
 use Rattle.text.proofs.digits.width.Goals as goal
 
-pub loop-bound-init : goal.loop-bound-init
-loop-bound-init c = (refl, search rules, search rules, decimal-some c.args.number)
-
-pub returns-then-count-eq20 : goal.returns-then-count-eq20
-returns-then-count-eq20 c =
-    let longer : c.loop-bound.count < length (decimal c.args.number) = decimal_above _ _ (rw c.loop-bound.invariant.0 at c.loop-bound-test.true) in
-    let above = longer in
-    let short = decimal_short c.args.number (omega arith) in
+-- the power of ten below a number says how many digits it has, and 1 stands for 0
+digits : (k m n : ℕ) → m ≡ max n 1 → 10 ^ k ≤ m → m < 10 * 10 ^ k → k + 1 ≡ length (decimal n)
+digits zero m zero e l h = rw (decimal_few 0 (omega arith))
+digits (suc k) m zero e l h =
+    let p : 10 ^ suc k ≡ 10 ^ k * 10 = pow-suc 10 k in
+    let o : 1 ≤ 10 ^ k = one-le-pow k 10 (omega arith) in
+    absurd (omega arith)
+digits k m (suc n) e l h =
+    let p : 10 ^ suc k ≡ 10 ^ k * 10 = pow-suc 10 k in
+    let more : k < length (decimal (suc n)) = decimal_above k (suc n) (omega arith) in
+    let most : length (decimal (suc n)) ≤ suc k = decimal-below (suc k) (suc n) (omega arith) (omega arith) in
     omega arith
-
-pub overflow_mul-bound : goal.overflow_mul-bound
-overflow_mul-bound c =
-    let most : 10 ^ c.loop-bound.count ≤ 10 ^ 18 = pow-le-pow_right (omega arith) {j = 18} (omega arith) in
-    omega arith
-
-pub loop-bound-preserved : goal.loop-bound-preserved
-loop-bound-preserved c =
-    let longer : c.loop-bound.count < length (decimal c.args.number) = decimal_above _ _ (rw c.loop-bound.invariant.0 at c.loop-bound-test.true) in
-    let above = longer in
-    (rw (add-one, pow-suc, c.loop-bound.invariant.0), omega arith, omega arith, omega arith)
 
 pub returns : goal.returns
-returns c =
-    let l = c.loop-bound in
-    let below = decimal-below _ _ l.invariant.1 (rw l.invariant.0 at c.loop-bound-test.false) in
-    omega arith
+returns c = digits _ _ c.args.number c.max.ensures c.ilog10.ensures.power_le c.ilog10.ensures.next_power_gt

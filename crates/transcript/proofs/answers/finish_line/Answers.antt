@@ -1,16 +1,11 @@
-use Prim.Native.Nat.{◌-◌}
-use mathlib.Core.Path.{◌≡◌}
-use native.Mathlib.Omega.{arith}
 use Rattle.transcript.specs.Replies.{finish_line}
 use Rattle.transcript.proofs.answers.finish_line.Goals as goal
 
-pub returns-in-Refused : goal.returns-in-Refused
+pub returns-in-Ok : goal.returns-in-Ok
 unfolding finish_line
-returns-in-Refused c = rw c.in-Refused.is c.refused_line.ensures
+returns-in-Ok c =
+    rw (c.in-Ok.is, ← c.sent.ensures.spilled, ← c.sent.ensures.bytes) c.finished_line.ensures
 
-pub returns-in-Finished : goal.returns-in-Finished
+pub returns-in-Err : goal.returns-in-Err
 unfolding finish_line
-returns-in-Finished c =
-    let end = c.reply_end-end in
-    let whole : end.result - 0 ≡ end.result = omega arith in
-    rw (c.in-Finished.is, ← c.spilled-spilled.ensures, ← end.ensures.0) (rw whole at c.finished_line.ensures)
+returns-in-Err c = rw c.in-Err.is c.refused_line.ensures

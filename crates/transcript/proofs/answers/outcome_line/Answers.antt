@@ -11,4 +11,4 @@ returns-in-Frame c = rw c.in-Frame.is c.frame_line.ensures
 
 pub returns-in-Refused : goal.returns-in-Refused
 unfolding outcome_line
-returns-in-Refused c = rw (c.in-Refused.is, ← c.number.ensures) c.packet_line.ensures
+returns-in-Refused c = rw (c.in-Refused.is, ← c.number-number.ensures) c.packet_line.ensures

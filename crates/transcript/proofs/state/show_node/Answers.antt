@@ -1,19 +1,12 @@
-use native.Mathlib.Omega.{arith}
-use Prim.Native.Nat.{◌+◌, ◌-◌, ◌*◌}
-use mathlib.Core.Path.{◌≡◌}
-use borrow.Author.Tests.{le-leb, lt-leb}
-use Rattle.nodes.specs.Table.{record_size}
-use Rattle.transcript.specs.LinesLaws.{all_none}
+use Rattle.std.proofs.lemmas.Bool.{lt-leb, le-leb}
+use Rattle.transcript.specs.LinesLaws.{writes_none}
 use Rattle.transcript.specs.State.{node_lines}
 use Rattle.transcript.proofs.state.show_node.Goals as goal
 
-pub returns-then-table-end : goal.returns-then-table-end
+pub returns-in-Some : goal.returns-in-Some
 unfolding node_lines
-returns-then-table-end c = simp (lt-leb _ _ c.if-table-end.true) (all_none _ _)
+returns-in-Some c = simp (le-leb _ _ c.in-Some.ensures.within) (rw c.in-Some.ensures.fields at c.show_record.ensures)
 
-pub returns : goal.returns
+pub returns-in_default : goal.returns-in_default
 unfolding node_lines
-returns c =
-    let k = c.args.node in
-    let long : k * record_size + record_size - k * record_size ≡ record_size = omega arith in
-    simp (le-leb _ _ c.if-table-end.false) (rw long at c.show_record.ensures)
+returns-in_default c = simp (lt-leb _ _ c.in_default.ensures.none) (writes_none _)

@@ -1,10 +1,6 @@
-use Prim.Native.Nat.{◌-◌}
-use mathlib.Core.Path.{◌≡◌}
-use native.Mathlib.Omega.{arith}
-use lib.ListN.{length}
-use borrow.Author.Rules.{rules}
+use Rattle.std.proofs.Common.{◌≡◌, length, arith, rules}
 use Rattle.frame.specs.Line.{limit}
-use Rattle.transcript.specs.LinesLaws.{all_one}
+use Rattle.transcript.specs.LinesLaws.{writes_one}
 use Rattle.transcript.specs.State.{reading_lines}
 use Rattle.transcript.specs.StateLaws.{held_at, mode_of_at}
 use Rattle.transcript.proofs.state.show_reading.Goals as goal
@@ -20,6 +16,4 @@ returns c =
     let r = c.args.reading in
     let p = c.taken_cursor-cursor in
     let state = p.ensures.state r.bytes in
-    let whole : p.result.count - 0 ≡ p.result.count = omega arith in
-    let line = rw whole at c.reading_line.ensures in
-    rw (← state, held_at r.bytes p.result.count p.result.mode p.ensures.clear, mode_of_at _ p.result.mode) (all_one _ _ _ line)
+    rw (← state, held_at r.bytes p.result.count p.result.mode p.ensures.clear, mode_of_at _ p.result.mode) (writes_one c.reading_line.ensures)

@@ -1,12 +1,12 @@
-use mathlib.Core.Path.{sym, ◌∙◌}
-use Rattle.transcript.specs.LinesLaws.{all_none, all_one}
+use Rattle.std.proofs.Common.{sym, ◌∙◌}
+use Rattle.transcript.specs.LinesLaws.{writes_none, writes_one}
 use Rattle.transcript.specs.State.{slot_lines}
 use Rattle.transcript.proofs.state.show_slot.Goals as goal
 
-pub returns-then-not-is_open : goal.returns-then-not-is_open
+pub returns-then-is_open : goal.returns-then-is_open
 unfolding slot_lines
-returns-then-not-is_open c = simp (sym c.is_open.ensures ∙ c.if-not-is_open.true) (all_none _ _)
+returns-then-is_open c = simp (sym c.is_open.ensures ∙ c.if-is_open.true) (writes_one c.slot_line.ensures)
 
-pub returns : goal.returns
+pub returns-else-is_open : goal.returns-else-is_open
 unfolding slot_lines
-returns c = simp (sym c.is_open.ensures ∙ c.if-not-is_open.false) (all_one _ _ _ c.slot_line.ensures)
+returns-else-is_open c = simp (sym c.is_open.ensures ∙ c.if-is_open.false) (writes_none _)

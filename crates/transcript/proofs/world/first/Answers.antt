@@ -1,4 +1,4 @@
 use Rattle.transcript.proofs.world.first.Goals as goal
 
 pub returns : goal.returns
-returns c = rw (c.first-hub.ensures, c.emptied-reading.ensures)
+returns c = rw (c.first.ensures, c.emptied.ensures)

@@ -1,7 +1,0 @@
--- An open line is held up to one byte more than the longest line has.
-use Rattle.std.proofs.Common.{◌+◌, ◌≤◌}
-use Rattle.script.specs.Script.{longest}
-use Rattle.replay.proofs.main.Given as goal
-
-abbrev pub invariant-loop : goal.invariant-loop
-invariant-loop l = l.held ≤ longest + 1
