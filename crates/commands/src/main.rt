@@ -5,27 +5,31 @@
 pub mod entries;
 
 use directory::Entry;
-use std::io::{Print, Stdout};
+use std::io::{self, Write};
 use text::Page;
 
-// Writes an entry's line, and answers whether it was taken.
-fn write_entry(stdout: Stdout, entry: Entry) -> bool {
+// Writes an entry's line.
+fn write_entry<W: Write>(output: &mut W, entry: Entry) -> io::Result<()> {
     let mut out = [0; lister::LINE];
     let mut page = Page {
         out: &mut out,
         at: 0,
     };
     crate::entries::entry_line(&mut page, entry);
-    stdout.write_all(page.written()).is_ok()
+    output.write_all(page.written())
 }
 
-fn main(rt: HostRuntime) {
+// Writes the whole directory.
+fn write_directory<W: Write>(output: &mut W) -> io::Result<()> {
     for place in 0..directory::COUNT {
-        let Some(entry) = directory::entry_at(place) else {
-            return;
-        };
-        if !write_entry(rt.stdout(), entry) {
-            return;
+        if let Some(entry) = directory::entry_at(place) {
+            write_entry(output, entry)?;
         }
     }
+    Ok(())
+}
+
+// An error ends the lines, and is told to nobody.
+fn main(rt: HostRuntime) {
+    let _ = write_directory(&mut rt.stdout());
 }

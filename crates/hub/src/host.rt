@@ -80,16 +80,10 @@ pub fn finish(mut hub: Hub, session: u16, room: &mut [u8]) -> Answered<Notice>
 fn finish_lent(hub: &mut Hub, session: u16, room: &mut [u8]) -> Result<Notice, CallRefusal>
     ensures { Finishes hub.old session room.old result hub.new room.new }
 {
-    match sessions::line_of(&hub.slots, session) {
-        None => Err(CallRefusal::NotOpen),
-        Some(line) => {
-            match replies::write(room, Reply::SessionFinished(session), &[]) {
-                Ok(len) => {
-                    sessions::finish(&mut hub.slots, session);
-                    Ok(Notice { line, len })
-                }
-                Err(_) => Err(CallRefusal::ShortRoom),
-            }
-        }
-    }
+    let line = sessions::line_of(&hub.slots, session).ok_or(CallRefusal::NotOpen)?;
+    let Ok(len) = replies::write(room, Reply::SessionFinished(session), &[]) else {
+        return Err(CallRefusal::ShortRoom);
+    };
+    sessions::finish(&mut hub.slots, session);
+    Ok(Notice { line, len })
 }

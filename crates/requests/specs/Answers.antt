@@ -1,5 +1,9 @@
 -- What the functions behind `call` answer: each is the definition's.
-use Rattle.std.specs.Prelude.{ℕ, ◌≤◌, ◌≡◌, List, cond, eqb, length, take, drop, set, get_or}
+use Rattle.std.specs.Prelude.{ℕ, ◌≤◌, ◌≡◌, List, Result, Ok, Err, cond, eqb, length, take, drop, set, get_or}
+use Rattle.directory.specs.declared.CommandError.{CommandError}
+use Rattle.directory.specs.declared.CommandError.TheVariants as refused
+use Rattle.requests.specs.declared.decide.RequestError.{RequestError}
+use Rattle.requests.specs.declared.decide.RequestError.TheVariants as error
 use Rattle.line.specs.declared.Cursor.{Cursor}
 use Rattle.line.specs.declared.Reading.{Reading}
 use Rattle.frame.specs.Frame.{head}
@@ -86,6 +90,22 @@ pub record Decides (x : Response) (h : Hub) (t : List ℕ) (l : ℕ) (d : List �
   pub says : says t r ≡ x.says
   pub left : carried_out r h t l d ≡ record { hub = x.hub; table = x.table }
   pub enough : Enough r d
+
+-- the error of a command that the directory refuses
+abbrev pub error_for : CommandError → RequestError
+error_for refused.Unknown = error.UnknownCommand
+error_for refused.WrongLength = error.Frame
+
+-- the byte of the error frame
+abbrev pub error_byte : RequestError → ℕ
+error_byte error.UnknownCommand = rules.unknown_command
+error_byte error.Frame = rules.frame_error
+error_byte error.NotLoggedIn = rules.not_logged_in
+
+-- the reply that tells a request's answer: where it fails, the error frame
+abbrev pub answered : Result Reply RequestError → Reply
+answered (Ok r) = r
+answered (Err e) = reply.Error (error_byte e)
 
 -- each request that has a status
 abbrev pub password_status : List ℕ → List ℕ → ℕ

@@ -8,7 +8,7 @@ ghost use Rattle.sessions.specs.Sessions.{mode_send_size, mode_send_of};
 ghost use Rattle.directory.specs.Lookup.{verdict};
 ghost use Rattle.rules.specs.Hub.{password_size, may_ask, request, respond};
 ghost use Rattle.replies.specs.declared.Reply.TheVariants.{NameSet, OrderAndPlacementSet};
-ghost use Rattle.requests.specs.Answers.{Decides, password_status, varied, confirmed};
+ghost use Rattle.requests.specs.Answers.{Decides, answered, error_for, password_status, varied, confirmed};
 
 use directory::CommandError;
 use replies::Reply;
@@ -36,21 +36,33 @@ pub(crate) enum PasswordStatus {
     Incorrect = 1,
 }
 
-// The order of document 01: command unknown, length outside its range, not logged in, not served.
-pub(crate) fn decide(hub: &Hub, table: &[u8], line: u8, command: u16, payload: &[u8]) -> Reply
-    ensures { Decides (respond hub.now table.now line (frame command payload.now)) hub.now table.now line payload.now result }
-{
-    match directory::judge(command, payload.len()) {
-        Err(CommandError::Unknown) => Reply::Error(RequestError::UnknownCommand as u8),
-        Err(CommandError::WrongLength) => Reply::Error(RequestError::Frame as u8),
-        Ok(()) => {
-            if may_ask(hub, line, command) {
-                request(hub, table, line, command, payload)
-            } else {
-                Reply::Error(RequestError::NotLoggedIn as u8)
-            }
+// A command that the directory refuses, as the error frame tells it.
+impl From<CommandError> for RequestError {
+    ghost from_gives = { λ refused error. error ≡ error_for refused };
+
+    fn from(refused: CommandError) -> RequestError {
+        match refused {
+            CommandError::Unknown => RequestError::UnknownCommand,
+            CommandError::WrongLength => RequestError::Frame,
         }
     }
+}
+
+// The order of document 01: command unknown, length outside its range, not logged in, not served.
+pub(crate) fn decide(
+    hub: &Hub,
+    table: &[u8],
+    line: u8,
+    command: u16,
+    payload: &[u8],
+) -> Result<Reply, RequestError>
+    ensures { Decides (respond hub.now table.now line (frame command payload.now)) hub.now table.now line payload.now (answered result) }
+{
+    directory::judge(command, payload.len())?;
+    if !may_ask(hub, line, command) {
+        return Err(RequestError::NotLoggedIn);
+    }
+    request(hub, table, line, command, payload)
 }
 
 fn may_ask(hub: &Hub, line: u8, command: u16) -> bool
@@ -60,21 +72,27 @@ fn may_ask(hub: &Hub, line: u8, command: u16) -> bool
 }
 
 // A request by its number. SceneDeleted is 0.
-fn request(hub: &Hub, table: &[u8], line: u8, command: u16, payload: &[u8]) -> Reply
+fn request(
+    hub: &Hub,
+    table: &[u8],
+    line: u8,
+    command: u16,
+    payload: &[u8],
+) -> Result<Reply, RequestError>
     requires { verdict command (length payload.now) ≡ None }
-    ensures { Decides (request hub.now table.now line command payload.now) hub.now table.now line payload.now result }
+    ensures { Decides (request hub.now table.now line command payload.now) hub.now table.now line payload.now (answered result) }
 {
     match command {
-        PASSWORD_ENTER => Reply::PasswordEntered(password_status(hub, payload)),
-        PASSWORD_CHANGE => Reply::PasswordChanged(password_status(hub, payload)),
-        0x0200 => Reply::AboutNode(payload[0]),
-        0x0206 => set_variation(table, payload),
-        0x0208 => set_name(table, payload[0]),
-        0x020D => set_order_and_placement(table, payload[0]),
-        0x0106 => Reply::NodesRemoved(0),
-        0x0108 => Reply::VirginStateSet,
-        0x0320 => mode_send(hub, table, mode_send_of(payload)),
-        _ => Reply::Error(RequestError::UnknownCommand as u8),
+        PASSWORD_ENTER => Ok(Reply::PasswordEntered(password_status(hub, payload))),
+        PASSWORD_CHANGE => Ok(Reply::PasswordChanged(password_status(hub, payload))),
+        0x0200 => Ok(Reply::AboutNode(payload[0])),
+        0x0206 => Ok(set_variation(table, payload)),
+        0x0208 => Ok(set_name(table, payload[0])),
+        0x020D => Ok(set_order_and_placement(table, payload[0])),
+        0x0106 => Ok(Reply::NodesRemoved(0)),
+        0x0108 => Ok(Reply::VirginStateSet),
+        0x0320 => Ok(mode_send(hub, table, mode_send_of(payload))),
+        _ => Err(RequestError::UnknownCommand),
     }
 }
 

@@ -6,7 +6,7 @@ ghost use Rattle.frame.specs.Line.{limit};
 ghost use Rattle.frame.specs.Answers.{told, Within};
 ghost use Rattle.rules.specs.Hub.{respond_if};
 ghost use Rattle.rules.specs.Promises.{Feeds};
-ghost use Rattle.requests.specs.Answers.{reading_at, data_length, data_in, Decides};
+ghost use Rattle.requests.specs.Answers.{reading_at, data_length, data_in, Decides, answered};
 
 use crate::decide::{RequestError, decide};
 use crate::effects::carry_out;
@@ -82,29 +82,44 @@ fn serve(
     let mut tried = *held;
     let read = frame::read_in(&mut tried, *cursor, bytes);
     let reply = decide_outcome(hub, table, line.number, read.outcome, &tried);
-    match replies::write(room, reply, table) {
-        Ok(len) => {
-            let end = frame::HEAD + data_len(read.outcome);
-            carry_out(hub, table, line, reply, &tried[frame::HEAD..end]);
-            *held = tried;
-            *cursor = read.cursor;
-            Ok(Told {
-                used: read.used,
-                outcome: read.outcome,
-                len,
-            })
-        }
-        Err(_) => Err(CallRefusal::ShortRoom),
-    }
+    let Ok(len) = replies::write(room, reply, table) else {
+        return Err(CallRefusal::ShortRoom);
+    };
+    let end = frame::HEAD + data_len(read.outcome);
+    carry_out(hub, table, line, reply, &tried[frame::HEAD..end]);
+    *held = tried;
+    *cursor = read.cursor;
+    Ok(Told {
+        used: read.used,
+        outcome: read.outcome,
+        len,
+    })
 }
 
-// What is answered to what was read, if it came to an outcome.
+// What is answered to what was read: a request that fails is told by the error frame.
 fn decide_outcome(hub: &Hub, table: &[u8], line: u8, outcome: FrameOutcome, held: &[u8]) -> Reply
     requires { (length held.now ≡ limit) × Within outcome }
     ensures { Decides (respond_if hub.now table.now line (told outcome held.now)) hub.now table.now line (data_in outcome held.now) result }
 {
+    match reply_to(hub, table, line, outcome, held) {
+        Ok(reply) => reply,
+        Err(error) => Reply::Error(error as u8),
+    }
+}
+
+// The reply to it, if it came to an outcome.
+fn reply_to(
+    hub: &Hub,
+    table: &[u8],
+    line: u8,
+    outcome: FrameOutcome,
+    held: &[u8],
+) -> Result<Reply, RequestError>
+    requires { (length held.now ≡ limit) × Within outcome }
+    ensures { Decides (respond_if hub.now table.now line (told outcome held.now)) hub.now table.now line (data_in outcome held.now) (answered result) }
+{
     match outcome {
-        FrameOutcome::Nothing => Reply::Nothing,
+        FrameOutcome::Nothing => Ok(Reply::Nothing),
         FrameOutcome::Frame { command, len } => decide(
             hub,
             table,
@@ -112,7 +127,7 @@ fn decide_outcome(hub: &Hub, table: &[u8], line: u8, outcome: FrameOutcome, held
             command,
             &held[frame::HEAD..frame::HEAD + len],
         ),
-        FrameOutcome::Refused(_) => Reply::Error(RequestError::Frame as u8),
+        FrameOutcome::Refused(_) => Err(RequestError::Frame),
     }
 }
 

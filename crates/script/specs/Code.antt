@@ -1,7 +1,10 @@
 -- What the functions of `hex`, `numbers` and `parser` answer.
-use Rattle.std.specs.Prelude.{ℕ, suc, ◌+◌, ◌*◌, ◌≤◌, min, ◌≡◌, List, [], ◌∷◌, cond, ◌&&◌, length, take, drop, leb, ltb, eqb, Option, Some, None}
+use Rattle.std.specs.Prelude.{ℕ, suc, ◌+◌, ◌*◌, ◌≤◌, min, ◌≡◌, List, [], ◌∷◌, cond, ◌&&◌, length, take, drop, leb, ltb, eqb, Option, Some, None, Result, Ok, Err}
 use Rattle.std.specs.Borrow.{Bor}
 use Rattle.script.specs.declared.Words.{Words}
+use Rattle.script.specs.declared.BadWord.{BadWord}
+use Rattle.script.specs.declared.Call as answer
+use Rattle.script.specs.declared.Call.TheVariants.{Bad}
 use Rattle.script.specs.Script.{space, words, first, rest, number_up_to, hex_value, bytes, session, table_of}
 
 -- how many bytes stand before the first space
@@ -52,6 +55,11 @@ Stored bs out None = bs ≡ None
 abbrev pub BytesAt : List (List ℕ) → List ℕ → List (List ℕ) → Option ℕ → Type 0
 BytesAt ws out left (Some n) = (bytes (first ws) ≡ Some (take n out)) × (n ≤ length out) × (rest ws ≡ left)
 BytesAt ws out left None = bytes (first ws) ≡ None
+
+-- what `parse` answers: the call, or the word that cannot be taken
+abbrev pub answered : Result answer.Call BadWord → answer.Call
+answered (Ok call) = call
+answered (Err bad) = Bad bad.0
 
 -- the value of a digit, if it is one
 unfoldable pub digit_of : ℕ → Option ℕ

@@ -46,6 +46,10 @@ pub enum Call {
     Long,
 }
 
+// The first word that cannot be taken, counted from 1.
+#[derive(Clone, Copy)]
+pub(crate) struct BadWord(u8);
+
 // The words of a line that are still to come: the next starts at `from`, and behind the line's end is none. The bytes of each fit where `parse` stores them.
 #[derive(Clone, Copy)]
 pub(crate) struct Words<'a> {

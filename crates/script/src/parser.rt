@@ -1,11 +1,11 @@
 // What a line of a script is; the words of a call are taken left to right, and the first that cannot be is told.
 // The answer is the definition's: specs/Script.antt, specs/Answers.antt.
-ghost use Rattle.std.specs.Prelude.{◌==◌, position, ◌≡◌};
-ghost use Rattle.script.specs.Script.{space, ended, start_of, enrol_of, feed_of, close_of, finish_of, alone, show, table, call_of, is_remark, parse};
+ghost use Rattle.std.specs.Prelude.{◌==◌, position, ◌≡◌, is_some};
+ghost use Rattle.script.specs.Script.{space, byte_most, pair_most, ended, start_of, enrol_of, feed_of, close_of, finish_of, alone, show, table, call_of, is_remark, parse};
 ghost use Rattle.script.specs.Answers.{Tells, TellsAny};
-ghost use Rattle.script.specs.Code.{word_length, to_come, WordAt, Numbered, TableAt, SessionAt, BytesAt};
+ghost use Rattle.script.specs.Code.{word_length, to_come, answered, WordAt, Numbered, TableAt, SessionAt, BytesAt};
 
-use crate::{Call, Words, hex, numbers};
+use crate::{BadWord, Call, Words, hex, numbers};
 
 // No line has more bytes.
 pub const LONGEST: usize = 40000;
@@ -48,7 +48,10 @@ pub fn parse(line: &[u8], bytes: &mut [u8; DATA_MOST]) -> Call
     if is_remark(line) {
         return Call::Remark;
     }
-    called(Words { line, from: 0 }, bytes)
+    match called(Words { line, from: 0 }, bytes) {
+        Ok(call) => call,
+        Err(BadWord(word)) => Call::Bad { word },
+    }
 }
 
 // An empty line, and one that begins with `#`.
@@ -59,12 +62,10 @@ fn is_remark(line: &[u8]) -> bool
 }
 
 // The call of a line's words: the first says which it is.
-fn called(mut words: Words, bytes: &mut [u8; DATA_MOST]) -> Call
-    ensures { Tells (call_of (to_come words.entry)) bytes.new result }
+fn called(mut words: Words, bytes: &mut [u8; DATA_MOST]) -> Result<Call, BadWord>
+    ensures { Tells (call_of (to_come words.entry)) bytes.new (answered result) }
 {
-    let Some(word) = words.next_word() else {
-        return Call::Bad { word: 1 };
-    };
+    let word = words.next_word().ok_or(BadWord(1))?;
     // Stays: a `match` on the seven words leaves a goal for each byte at which two of them part.
     if word == START {
         return start(words, bytes);
@@ -87,131 +88,96 @@ fn called(mut words: Words, bytes: &mut [u8; DATA_MOST]) -> Call
     if word == NODES {
         return nodes(words);
     }
-    Call::Bad { word: 1 }
+    Err(BadWord(1))
 }
 
 // "start BYTES [TABLE]".
-fn start(mut words: Words, bytes: &mut [u8; DATA_MOST]) -> Call
-    ensures { Tells (start_of (to_come words.entry)) bytes.new result }
+fn start(mut words: Words, bytes: &mut [u8; DATA_MOST]) -> Result<Call, BadWord>
+    ensures { Tells (start_of (to_come words.entry)) bytes.new (answered result) }
 {
-    let Some(len) = words.bytes(bytes) else {
-        return Call::Bad { word: 2 };
-    };
-    let Some(table) = words.table() else {
-        return Call::Bad { word: 3 };
-    };
-    if !words.is_done() {
-        return Call::Bad { word: 4 };
-    }
-    Call::Start { len, table }
+    let len = words.bytes(bytes).ok_or(BadWord(2))?;
+    let table = words.table().ok_or(BadWord(3))?;
+    words.end().ok_or(BadWord(4))?;
+    Ok(Call::Start { len, table })
 }
 
 // "enrol NODE TYPE [TABLE]".
-fn enrol(mut words: Words) -> Call
-    ensures { TellsAny (enrol_of (to_come words.entry)) result }
+fn enrol(mut words: Words) -> Result<Call, BadWord>
+    ensures { TellsAny (enrol_of (to_come words.entry)) (answered result) }
 {
-    let Some(node) = words.number(BYTE_MOST) else {
-        return Call::Bad { word: 2 };
-    };
-    let Some(kind) = words.number(PAIR_MOST) else {
-        return Call::Bad { word: 3 };
-    };
-    let Some(table) = words.table() else {
-        return Call::Bad { word: 4 };
-    };
-    if !words.is_done() {
-        return Call::Bad { word: 5 };
-    }
-    Call::Enrol {
-        node: node as u8,
-        kind: kind as u16,
-        table,
-    }
+    let node = words.byte().ok_or(BadWord(2))?;
+    let kind = words.pair().ok_or(BadWord(3))?;
+    let table = words.table().ok_or(BadWord(4))?;
+    words.end().ok_or(BadWord(5))?;
+    Ok(Call::Enrol { node, kind, table })
 }
 
 // "feed LINE ROOM BYTES [TABLE]".
-fn feed(mut words: Words, bytes: &mut [u8; DATA_MOST]) -> Call
-    ensures { Tells (feed_of (to_come words.entry)) bytes.new result }
+fn feed(mut words: Words, bytes: &mut [u8; DATA_MOST]) -> Result<Call, BadWord>
+    ensures { Tells (feed_of (to_come words.entry)) bytes.new (answered result) }
 {
-    let Some(line) = words.number(BYTE_MOST) else {
-        return Call::Bad { word: 2 };
-    };
-    let Some(room) = words.number(ROOM_MOST) else {
-        return Call::Bad { word: 3 };
-    };
-    let Some(len) = words.bytes(bytes) else {
-        return Call::Bad { word: 4 };
-    };
-    let Some(table) = words.table() else {
-        return Call::Bad { word: 5 };
-    };
-    if !words.is_done() {
-        return Call::Bad { word: 6 };
-    }
-    Call::Feed {
-        line: line as u8,
+    let line = words.byte().ok_or(BadWord(2))?;
+    let room = words.number(ROOM_MOST).ok_or(BadWord(3))?;
+    let len = words.bytes(bytes).ok_or(BadWord(4))?;
+    let table = words.table().ok_or(BadWord(5))?;
+    words.end().ok_or(BadWord(6))?;
+    Ok(Call::Feed {
+        line,
         room,
         len,
         table,
-    }
+    })
 }
 
 // "close LINE".
-fn close(mut words: Words) -> Call
-    ensures { TellsAny (close_of (to_come words.entry)) result }
+fn close(mut words: Words) -> Result<Call, BadWord>
+    ensures { TellsAny (close_of (to_come words.entry)) (answered result) }
 {
-    let Some(line) = words.number(BYTE_MOST) else {
-        return Call::Bad { word: 2 };
-    };
-    if !words.is_done() {
-        return Call::Bad { word: 3 };
-    }
-    Call::Close { line: line as u8 }
+    let line = words.byte().ok_or(BadWord(2))?;
+    words.end().ok_or(BadWord(3))?;
+    Ok(Call::Close { line })
 }
 
 // "finish SESSION ROOM".
-fn finish(mut words: Words) -> Call
-    ensures { TellsAny (finish_of (to_come words.entry)) result }
+fn finish(mut words: Words) -> Result<Call, BadWord>
+    ensures { TellsAny (finish_of (to_come words.entry)) (answered result) }
 {
-    let Some(session) = words.session() else {
-        return Call::Bad { word: 2 };
-    };
-    let Some(room) = words.number(ROOM_MOST) else {
-        return Call::Bad { word: 3 };
-    };
-    if !words.is_done() {
-        return Call::Bad { word: 4 };
-    }
-    Call::Finish { session, room }
+    let session = words.session().ok_or(BadWord(2))?;
+    let room = words.number(ROOM_MOST).ok_or(BadWord(3))?;
+    words.end().ok_or(BadWord(4))?;
+    Ok(Call::Finish { session, room })
 }
 
 // "show".
-fn show(words: Words) -> Call
-    ensures { TellsAny (alone show (ended (to_come words.entry))) result }
+fn show(words: Words) -> Result<Call, BadWord>
+    ensures { TellsAny (alone show (ended (to_come words.entry))) (answered result) }
 {
-    if !words.is_done() {
-        return Call::Bad { word: 2 };
-    }
-    Call::Show
+    words.end().ok_or(BadWord(2))?;
+    Ok(Call::Show)
 }
 
 // "table".
-fn nodes(words: Words) -> Call
-    ensures { TellsAny (alone table (ended (to_come words.entry))) result }
+fn nodes(words: Words) -> Result<Call, BadWord>
+    ensures { TellsAny (alone table (ended (to_come words.entry))) (answered result) }
 {
-    if !words.is_done() {
-        return Call::Bad { word: 2 };
-    }
-    Call::Table
+    words.end().ok_or(BadWord(2))?;
+    Ok(Call::Table)
 }
 
-// Each method but `is_done` takes one word.
+// Each method but `is_done` and `end` takes one word.
 impl<'a> Words<'a> {
     // No word is left.
     fn is_done(&self) -> bool
         ensures { result ≡ ended (to_come self.now) }
     {
         self.line.len() < self.from
+    }
+
+    // The end of the line: no word may be left.
+    fn end(&self) -> Option<()>
+        ensures { is_some result ≡ ended (to_come self.now) }
+    {
+        self.is_done().then_some(())
     }
 
     // The word up to the next space, or to the line's end.
@@ -230,6 +196,22 @@ impl<'a> Words<'a> {
     {
         let word = self.next_word()?;
         numbers::number_in(word, most)
+    }
+
+    // The next word as a byte: LINE or NODE.
+    fn byte(&mut self) -> Option<u8>
+        ensures { Numbered byte_most (to_come self.old) (to_come self.new) result }
+    {
+        let number = self.number(BYTE_MOST)?;
+        u8::try_from(number).ok()
+    }
+
+    // The next word as two bytes: TYPE.
+    fn pair(&mut self) -> Option<u16>
+        ensures { Numbered pair_most (to_come self.old) (to_come self.new) result }
+    {
+        let number = self.number(PAIR_MOST)?;
+        u16::try_from(number).ok()
     }
 
     // The next word as a session.

@@ -3,7 +3,7 @@ use Prim.Native.Nat.{ℕ, ◌≤◌, ◌<◌}
 use Rattle.std.specs.Prelude.{Ok, Err}
 use mathlib.Core.Path.{◌≡◌, ap}
 use mathlib.Core.List.{List, ◌++◌}
-use mathlib.Core.Option.{none, some}
+use mathlib.Core.Option.{some}
 use lib.ListN.{length, drop}
 use borrow.Author.Tests.{lt-ltb, le-ltb}
 use Rattle.sessions.specs.Sessions as sessions
@@ -14,10 +14,6 @@ use Rattle.rules.specs.Hub.{with_slots, finished_on, notice}
 use Rattle.rules.specs.Promises.{Finishes}
 
 module _ (h : Hub) (x : ℕ) (space : List ℕ) where
-  -- finishing a number that is not open
-  pub finish_not_open : sessions.finish h.slots x ≡ none → Finishes h x space (Err cause.NotOpen) h space
-  finish_not_open o = record { answer = rw o; hub = rw o; room = rw o }
-
   module _ (l : ℕ) (told : sessions.told (sessions.finish h.slots x) ≡ sessions.on_line l) where
     abbrev ss : List ℕ
     ss = sessions.left_by (sessions.finish h.slots x) h.slots

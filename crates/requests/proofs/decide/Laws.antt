@@ -6,6 +6,11 @@ use mathlib.Core.Bool.{Bool, true, false, cond}
 use native.Mathlib.Omega.{arith}
 use lib.ListN.{length, take, drop, get_or}
 use lib.Seq.{take_all}
+use Rattle.std.specs.Prelude.{Err}
+use Rattle.frame.specs.Frame.{frame}
+use Rattle.directory.specs.declared.CommandError.{CommandError}
+use Rattle.directory.specs.declared.CommandError.TheVariants as refused
+use Rattle.directory.specs.Lookup.{unknown_command, frame_error, verdict, error_of}
 use Rattle.passwords.specs.Passwords.{is_same, stored}
 use Rattle.nodes.specs.Table.{name_field, order_and_placement, node_status, set_name, set_order_and_placement, set_variation}
 use Rattle.nodes.specs.TableLaws.{set_field-status}
@@ -15,12 +20,18 @@ use Rattle.replies.specs.declared.Reply.TheVariants as reply
 use Rattle.rules.specs.declared.Hub.{Hub}
 use Rattle.rules.specs.Hub as rules
 use Rattle.rules.specs.Hub.{Password, password_size, change_size, correct, incorrect, with_login, with_password, enter, change, changed, failure, node_reply, remove_nodes, virgin_state, mode_send}
-use Rattle.requests.specs.Answers.{Decides, password_status, varied, confirmed}
+use Rattle.requests.specs.Answers.{Decides, answered, error_for, password_status, varied, confirmed}
 
 module _ (h : Hub) (t : List ℕ) (l : ℕ) (d : List ℕ) where
   -- the error frame: hub and table stay
   pub failed_decides : (e : ℕ) → Decides (failure h t e) h t l d (reply.Error e)
   failed_decides e = record { says = refl; left = refl; enough = tt }
+
+  -- a command that the directory refuses
+  pub rejected_decides : (c : ℕ) (e : CommandError) → verdict c (length d) ≡ error_of (Err e) → Decides (rules.respond h t l (frame c d)) h t l d (answered (Err (error_for e)))
+  unfolding rules.respond
+  rejected_decides c refused.Unknown v = rw v (failed_decides unknown_command)
+  rejected_decides c refused.WrongLength v = rw v (failed_decides frame_error)
 
   -- the password requests: what they do goes by the status
   pub entered_decides : length d ≡ password_size

@@ -1,26 +1,22 @@
-use Rattle.rules.specs.Hub.{respond}
 use Rattle.std.specs.Prelude.{Err}
-use Rattle.directory.specs.declared.CommandError.{CommandError}
+use Rattle.std.proofs.Common.{rules}
+use Rattle.rules.specs.Hub.{respond}
 use Rattle.directory.specs.Lookup.{error_of}
-use Rattle.requests.proofs.decide.Laws.{failed_decides}
-use mathlib.Core.Path.{sym, ap, ◌∙◌}
+use Rattle.requests.specs.Answers.{error_for}
+use Rattle.requests.proofs.decide.Laws.{failed_decides, rejected_decides}
+use mathlib.Core.Path.{◌≡◌, sym, ap, ◌∙◌}
 use Rattle.requests.proofs.decide.decide.Goals as goal
 
-pub request-requires : goal.request-requires
-request-requires c = sym c.judge.ensures ∙ ap error_of c.in-Ok.is
+pub returns-in_err-judge : goal.returns-in_err-judge
+returns-in_err-judge c =
+    let e = c.in_err-judge.field-0.0 in
+    let told : c.from_residual.result ≡ Err (error_for e) = search rules in
+    rw told (rejected_decides _ _ _ _ _ e (sym c.judge.ensures ∙ ap error_of c.in_err-judge.was))
 
-pub returns-then-may_ask : goal.returns-then-may_ask
+pub returns-then-not-may_ask : goal.returns-then-not-may_ask
 unfolding respond
-returns-then-may_ask c = rw (sym c.judge.ensures ∙ ap error_of c.in-Ok.is, sym c.may_ask.ensures ∙ c.if-may_ask.true) c.request.ensures
+returns-then-not-may_ask c = rw (sym c.judge.ensures ∙ ap error_of c.in_ok-judge.was, sym c.may_ask.ensures ∙ c.if-not-may_ask.true) (failed_decides _ _ _ _ _)
 
-pub returns-in-Err-Unknown : goal.returns-in-Err-Unknown
+pub returns : goal.returns
 unfolding respond
-returns-in-Err-Unknown c = rw (sym c.judge.ensures ∙ ap error_of c.in-Err-Unknown.is ∙ ap (λ (e : CommandError). error_of (Err e)) c.in-Err-Unknown.field-0-is) (failed_decides _ _ _ _ _)
-
-pub returns-in-Err-WrongLength : goal.returns-in-Err-WrongLength
-unfolding respond
-returns-in-Err-WrongLength c = rw (sym c.judge.ensures ∙ ap error_of c.in-Err-WrongLength.is ∙ ap (λ (e : CommandError). error_of (Err e)) c.in-Err-WrongLength.field-0-is) (failed_decides _ _ _ _ _)
-
-pub returns-else-may_ask : goal.returns-else-may_ask
-unfolding respond
-returns-else-may_ask c = rw (sym c.judge.ensures ∙ ap error_of c.in-Ok.is, sym c.may_ask.ensures ∙ c.if-may_ask.false) (failed_decides _ _ _ _ _)
+returns c = rw (sym c.judge.ensures ∙ ap error_of c.in_ok-judge.was, sym c.may_ask.ensures ∙ c.if-not-may_ask.false) c.request.ensures

@@ -38,17 +38,17 @@ carry_out-requires c =
     let e : 4 + n - 4 ≡ n = omega arith in
     rw (e, c.data_len-end.ensures) c.decide_outcome-reply.ensures.enough
 
-pub returns-in-Ok : goal.returns-in-Ok
-returns-in-Ok c =
+pub returns-in_default : goal.returns-in_default
+returns-in_default c =
+    let w = c.write.ensures in
+    let x = write_all_err _ _ _ (sym w.answer ∙ ap told c.in_default.is) in
+    rw (w.room ∙ x.1, ← c.in_ok-line.ensures) (short_feeds _ _ _ _ _ _ (answer_of _ c.read_in-read.result) c.decide_outcome-reply.result c.if-table-ne-TABLE.false (omega (arith, c.in_ok-line.line.one_of_four)) c.read_in-read.ensures c.decide_outcome-reply.ensures x.0)
+
+pub returns : goal.returns
+returns c =
     let w = c.write.ensures in
     let x = write_all_done _ _ _ (sym w.answer ∙ ap told c.in-Ok.is) in
     let n = c.data_len-end.result in
     let e : 4 + n - 4 ≡ n = omega arith in
     let done = rw (e, c.data_len-end.ensures) at c.carry_out.ensures in
     rw (← c.in_ok-line.ensures) (told-feeds _ _ _ _ _ _ (answer_of _ c.read_in-read.result) c.decide_outcome-reply.result c.if-table-ne-TABLE.false (omega (arith, c.in_ok-line.line.one_of_four)) c.read_in-read.ensures c.decide_outcome-reply.ensures _ _ _ _ x.1 x.0 done (w.room ∙ rw (← x.0) x.2))
-
-pub returns-in-Err : goal.returns-in-Err
-returns-in-Err c =
-    let w = c.write.ensures in
-    let x = write_all_err _ _ _ (sym w.answer ∙ ap told c.in-Err.is) in
-    rw (w.room ∙ x.1, ← c.in_ok-line.ensures) (short_feeds _ _ _ _ _ _ (answer_of _ c.read_in-read.result) c.decide_outcome-reply.result c.if-table-ne-TABLE.false (omega (arith, c.in_ok-line.line.one_of_four)) c.read_in-read.ensures c.decide_outcome-reply.ensures x.0)

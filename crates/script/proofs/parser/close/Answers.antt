@@ -1,25 +1,26 @@
-use Rattle.std.proofs.Common.{refl, sym, ◌∙◌, arith}
+use Rattle.std.proofs.Common.{◌≡◌, refl, sym, ap, ◌∙◌, rules}
+use Rattle.std.specs.Result.{is_ok, result_ok}
+use Rattle.script.specs.declared.Call.TheVariants.{Bad}
 use Rattle.script.specs.Script.{close_of}
-use Rattle.script.specs.ByteLaws.{up_to_most}
+use Rattle.script.specs.Code.{answered}
 use Rattle.script.proofs.parser.close.Goals as goal
 
-pub returns-in_default : goal.returns-in_default
+pub returns-in_err-line : goal.returns-in_err-line
 unfolding close_of
-returns-in_default c = λ b. rw (rw c.in_default.is at c.number.ensures) (record { line = refl; within = tt })
+returns-in_err-line c =
+    let told : answered c.from_residual.result ≡ Bad 2 = search rules in
+    let none = c.ok_or.ensures.ok_part ∙ ap result_ok c.in_err-line.was in
+    λ b. rw (told, rw none at c.byte.ensures) (record { line = refl; within = tt })
 
-pub returns-then-not-is_done : goal.returns-then-not-is_done
+pub returns-in_err-ok_or : goal.returns-in_err-ok_or
 unfolding close_of
-returns-then-not-is_done c =
-    let w1 = rw c.in-Some.is at c.number.ensures in
-    λ b. rw (w1.0, w1.1, sym c.is_done.ensures ∙ c.if-not-is_done.true) (record { line = refl; within = tt })
-
-pub overflow_cast-result : goal.overflow_cast-result
-overflow_cast-result c =
-    let w1 = rw c.in-Some.is at c.number.ensures in
-    omega (arith, up_to_most _ _ _ w1.0)
+returns-in_err-ok_or c =
+    let told : answered c.from_residual-in_err-ok_or.result ≡ Bad 3 = search rules in
+    let w1 = rw (c.ok_or.ensures.ok_part ∙ ap result_ok c.in_ok-line.was) at c.byte.ensures in
+    λ b. rw (told, w1.0, w1.1, sym c.end.ensures ∙ sym c.ok_or-2.ensures.variant ∙ ap is_ok c.in_err-ok_or.was) (record { line = refl; within = tt })
 
 pub returns : goal.returns
 unfolding close_of
 returns c =
-    let w1 = rw c.in-Some.is at c.number.ensures in
-    λ b. rw (w1.0, w1.1, sym c.is_done.ensures ∙ c.if-not-is_done.false) (record { line = refl; within = tt })
+    let w1 = rw (c.ok_or.ensures.ok_part ∙ ap result_ok c.in_ok-line.was) at c.byte.ensures in
+    λ b. rw (w1.0, w1.1, sym c.end.ensures ∙ sym c.ok_or-2.ensures.variant ∙ ap is_ok c.in_ok-ok_or.was) (record { line = refl; within = tt })

@@ -1,48 +1,48 @@
-use Rattle.std.proofs.Common.{refl, sym, ◌∙◌, arith}
+use Rattle.std.proofs.Common.{◌≡◌, refl, sym, ap, ◌∙◌, rules}
+use Rattle.std.specs.Result.{is_ok, result_ok}
+use Rattle.script.specs.declared.Call.TheVariants.{Bad}
 use Rattle.script.specs.Script.{enrol_of}
-use Rattle.script.specs.ByteLaws.{up_to_most}
+use Rattle.script.specs.Code.{answered}
 use Rattle.script.specs.CallLaws.{table_most_lem}
 use Rattle.script.proofs.parser.enrol.Goals as goal
 
-pub returns-in_default : goal.returns-in_default
+pub returns-in_err-node : goal.returns-in_err-node
 unfolding enrol_of
-returns-in_default c = λ b. rw (rw c.in_default.is at c.number.ensures) (record { line = refl; within = tt })
+returns-in_err-node c =
+    let told : answered c.from_residual.result ≡ Bad 2 = search rules in
+    let none = c.ok_or.ensures.ok_part ∙ ap result_ok c.in_err-node.was in
+    λ b. rw (told, rw none at c.byte.ensures) (record { line = refl; within = tt })
 
-pub returns-in_default-number : goal.returns-in_default-number
+pub returns-in_err-kind : goal.returns-in_err-kind
 unfolding enrol_of
-returns-in_default-number c =
-    let w1 = rw c.in-Some.is at c.number.ensures in
-    λ b. rw (w1.0, w1.1, rw c.in_default-number.is at c.number-2.ensures) (record { line = refl; within = tt })
+returns-in_err-kind c =
+    let told : answered c.from_residual-in_err-kind.result ≡ Bad 3 = search rules in
+    let w1 = rw (c.ok_or.ensures.ok_part ∙ ap result_ok c.in_ok-node.was) at c.byte.ensures in
+    let none = c.ok_or-2.ensures.ok_part ∙ ap result_ok c.in_err-kind.was in
+    λ b. rw (told, w1.0, w1.1, rw none at c.pair.ensures) (record { line = refl; within = tt })
 
-pub returns-in_default-table : goal.returns-in_default-table
+pub returns-in_err-table : goal.returns-in_err-table
 unfolding enrol_of
-returns-in_default-table c =
-    let w1 = rw c.in-Some.is at c.number.ensures in
-    let w2 = rw c.in-Some-number.is at c.number-2.ensures in
-    λ b. rw (w1.0, w1.1, w2.0, w2.1, rw c.in_default-table.is at c.table.ensures) (record { line = refl; within = tt })
+returns-in_err-table c =
+    let told : answered c.from_residual-in_err-table.result ≡ Bad 4 = search rules in
+    let w1 = rw (c.ok_or.ensures.ok_part ∙ ap result_ok c.in_ok-node.was) at c.byte.ensures in
+    let w2 = rw (c.ok_or-2.ensures.ok_part ∙ ap result_ok c.in_ok-kind.was) at c.pair.ensures in
+    let none = c.ok_or-3.ensures.ok_part ∙ ap result_ok c.in_err-table.was in
+    λ b. rw (told, w1.0, w1.1, w2.0, w2.1, rw none at c.table.ensures) (record { line = refl; within = tt })
 
-pub returns-then-not-is_done : goal.returns-then-not-is_done
+pub returns-in_err-ok_or : goal.returns-in_err-ok_or
 unfolding enrol_of
-returns-then-not-is_done c =
-    let w1 = rw c.in-Some.is at c.number.ensures in
-    let w2 = rw c.in-Some-number.is at c.number-2.ensures in
-    let w3 = rw c.in-Some-table.is at c.table.ensures in
-    λ b. rw (w1.0, w1.1, w2.0, w2.1, w3.0, w3.1, sym c.is_done.ensures ∙ c.if-not-is_done.true) (record { line = refl; within = tt })
-
-pub overflow_cast-result : goal.overflow_cast-result
-overflow_cast-result c =
-    let w1 = rw c.in-Some.is at c.number.ensures in
-    omega (arith, up_to_most _ _ _ w1.0)
-
-pub overflow_cast-result-2 : goal.overflow_cast-result-2
-overflow_cast-result-2 c =
-    let w1 = rw c.in-Some-number.is at c.number-2.ensures in
-    omega (arith, up_to_most _ _ _ w1.0)
+returns-in_err-ok_or c =
+    let told : answered c.from_residual-in_err-ok_or.result ≡ Bad 5 = search rules in
+    let w1 = rw (c.ok_or.ensures.ok_part ∙ ap result_ok c.in_ok-node.was) at c.byte.ensures in
+    let w2 = rw (c.ok_or-2.ensures.ok_part ∙ ap result_ok c.in_ok-kind.was) at c.pair.ensures in
+    let w3 = rw (c.ok_or-3.ensures.ok_part ∙ ap result_ok c.in_ok-table.was) at c.table.ensures in
+    λ b. rw (told, w1.0, w1.1, w2.0, w2.1, w3.0, w3.1, sym c.end.ensures ∙ sym c.ok_or-4.ensures.variant ∙ ap is_ok c.in_err-ok_or.was) (record { line = refl; within = tt })
 
 pub returns : goal.returns
 unfolding enrol_of
 returns c =
-    let w1 = rw c.in-Some.is at c.number.ensures in
-    let w2 = rw c.in-Some-number.is at c.number-2.ensures in
-    let w3 = rw c.in-Some-table.is at c.table.ensures in
-    λ b. rw (w1.0, w1.1, w2.0, w2.1, w3.0, w3.1, sym c.is_done.ensures ∙ c.if-not-is_done.false) (record { line = refl; within = table_most_lem _ _ w3.0 })
+    let w1 = rw (c.ok_or.ensures.ok_part ∙ ap result_ok c.in_ok-node.was) at c.byte.ensures in
+    let w2 = rw (c.ok_or-2.ensures.ok_part ∙ ap result_ok c.in_ok-kind.was) at c.pair.ensures in
+    let w3 = rw (c.ok_or-3.ensures.ok_part ∙ ap result_ok c.in_ok-table.was) at c.table.ensures in
+    λ b. rw (w1.0, w1.1, w2.0, w2.1, w3.0, w3.1, sym c.end.ensures ∙ sym c.ok_or-4.ensures.variant ∙ ap is_ok c.in_ok-ok_or.was) (record { line = refl; within = table_most_lem _ _ w3.0 })

@@ -1,28 +1,37 @@
-use Rattle.std.proofs.Common.{refl, sym, ◌∙◌}
+use Rattle.std.proofs.Common.{◌≡◌, refl, sym, ap, ◌∙◌, rules}
+use Rattle.std.specs.Result.{is_ok, result_ok}
+use Rattle.script.specs.declared.Call.TheVariants.{Bad}
 use Rattle.script.specs.Script.{start_of}
+use Rattle.script.specs.Code.{answered}
 use Rattle.script.specs.CallLaws.{table_most_lem}
 use Rattle.script.proofs.parser.start.Goals as goal
 
-pub returns-in_default : goal.returns-in_default
+pub returns-in_err-len : goal.returns-in_err-len
 unfolding start_of
-returns-in_default c = rw (rw c.in_default.is at c.bytes.ensures) (record { line = refl; within = tt })
+returns-in_err-len c =
+    let told : answered c.from_residual.result ≡ Bad 2 = search rules in
+    let none = c.ok_or.ensures.ok_part ∙ ap result_ok c.in_err-len.was in
+    rw (told, rw none at c.bytes.ensures) (record { line = refl; within = tt })
 
-pub returns-in_default-table : goal.returns-in_default-table
+pub returns-in_err-table : goal.returns-in_err-table
 unfolding start_of
-returns-in_default-table c =
-    let w1 = rw c.in-Some.is at c.bytes.ensures in
-    rw (w1.0, w1.2, rw c.in_default-table.is at c.table.ensures) (record { line = refl; within = tt })
+returns-in_err-table c =
+    let told : answered c.from_residual-in_err-table.result ≡ Bad 3 = search rules in
+    let w1 = rw (c.ok_or.ensures.ok_part ∙ ap result_ok c.in_ok-len.was) at c.bytes.ensures in
+    let none = c.ok_or-2.ensures.ok_part ∙ ap result_ok c.in_err-table.was in
+    rw (told, w1.0, w1.2, rw none at c.table.ensures) (record { line = refl; within = tt })
 
-pub returns-then-not-is_done : goal.returns-then-not-is_done
+pub returns-in_err-ok_or : goal.returns-in_err-ok_or
 unfolding start_of
-returns-then-not-is_done c =
-    let w1 = rw c.in-Some.is at c.bytes.ensures in
-    let w2 = rw c.in-Some-table.is at c.table.ensures in
-    rw (w1.0, w1.2, w2.0, w2.1, sym c.is_done.ensures ∙ c.if-not-is_done.true) (record { line = refl; within = tt })
+returns-in_err-ok_or c =
+    let told : answered c.from_residual-in_err-ok_or.result ≡ Bad 4 = search rules in
+    let w1 = rw (c.ok_or.ensures.ok_part ∙ ap result_ok c.in_ok-len.was) at c.bytes.ensures in
+    let w2 = rw (c.ok_or-2.ensures.ok_part ∙ ap result_ok c.in_ok-table.was) at c.table.ensures in
+    rw (told, w1.0, w1.2, w2.0, w2.1, sym c.end.ensures ∙ sym c.ok_or-3.ensures.variant ∙ ap is_ok c.in_err-ok_or.was) (record { line = refl; within = tt })
 
 pub returns : goal.returns
 unfolding start_of
 returns c =
-    let w1 = rw c.in-Some.is at c.bytes.ensures in
-    let w2 = rw c.in-Some-table.is at c.table.ensures in
-    rw (w1.0, w1.2, w2.0, w2.1, sym c.is_done.ensures ∙ c.if-not-is_done.false) (record { line = refl; within = (w1.1, table_most_lem _ _ w2.0) })
+    let w1 = rw (c.ok_or.ensures.ok_part ∙ ap result_ok c.in_ok-len.was) at c.bytes.ensures in
+    let w2 = rw (c.ok_or-2.ensures.ok_part ∙ ap result_ok c.in_ok-table.was) at c.table.ensures in
+    rw (w1.0, w1.2, w2.0, w2.1, sym c.end.ensures ∙ sym c.ok_or-3.ensures.variant ∙ ap is_ok c.in_ok-ok_or.was) (record { line = refl; within = (w1.1, table_most_lem _ _ w2.0) })

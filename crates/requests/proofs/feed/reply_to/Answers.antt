@@ -3,7 +3,7 @@ use Rattle.requests.proofs.decide.Laws.{failed_decides}
 use Prim.Native.Nat.{◌+◌, ◌-◌}
 use native.Mathlib.Omega.{arith}
 use mathlib.Core.Path.{◌≡◌, refl}
-use Rattle.requests.proofs.feed.decide_outcome.Goals as goal
+use Rattle.requests.proofs.feed.reply_to.Goals as goal
 
 pub overflow_add-len : goal.overflow_add-len
 overflow_add-len c =
