@@ -1,12 +1,11 @@
 -- Places counted: what escaping adds to some bytes, and the wire place of a fault behind them.
-use Rattle.std.specs.Prelude.{ℕ, ◌+◌, ◌*◌, ◌≤◌, ◌≡◌, refl, List, [], ◌∷◌, Bool, true, false, cond, ◌||◌, length, take, count_by, eqb}
-use Rattle.std.proofs.Common.{sym, ap, ◌∙◌, arith, one-mul, length-take, length-take-le}
-use Rattle.std.proofs.lemmas.List.Sums.{sum_by-cons}
+use Rattle.std.specs.Prelude.{ℕ, ◌+◌, ◌*◌, ◌≤◌, ◌≡◌, refl, List, [], ◌∷◌, Bool, true, false, cond, ◌||◌, length, take, eqb}
+use Rattle.std.proofs.Common.{◌∙◌, arith, one-mul, length-take, length-take-le}
 use Rattle.line.specs.declared.Fault.{Fault}
 use Rattle.line.specs.declared.Fault.TheVariants.{WrongEscape, TooLong}
-use Rattle.line.specs.Wire.{END, ESC, escape}
+use Rattle.line.specs.Wire.{END, ESC}
 use Rattle.line.specs.Places.{DecodedPlace, FaultAt, places_at, wire_length, behind, behind_esc}
-use Rattle.line.specs.PlaceLaws.{wire_length_append, wire_length-one, wire_length_most}
+use Rattle.line.specs.PlaceLaws.{wire_length-one, wire_length_most}
 use Rattle.line.specs.Reader.{limit, wrong_escape, too_long}
 use Rattle.line.specs.Reachable.{least_wire, most_wire}
 use Rattle.line.specs.Step.{is_special, wire_by, fault_behind}
@@ -18,20 +17,6 @@ special_width b = wire_length-one b ∙ go (eqb b END) (eqb b ESC)
     go : (t u : Bool) → ◌≡◌ {A = ℕ} (cond t 2 (cond u 2 1)) (cond (t || u) 2 1)
     go true u = refl
     go false u = refl
-
--- each such byte adds one
-pub special_count : (h : List ℕ) → length h + count_by is_special h ≡ wire_length h
-unfolding wire_length escape
-special_count [] = refl
-special_count (b ∷ h) =
-    ap (λ n. length (b ∷ h) + n) (sum_by-cons (λ (x : ℕ). cond (is_special x) 1 0) b h)
-    ∙ go (is_special b) (wire_length (b ∷ [])) (special_width b) (special_count h)
-    ∙ sym (wire_length_append (b ∷ []) h)
-  where
-    go : (t : Bool) (n : ℕ) → n ≡ cond t 2 1 → length h + count_by is_special h ≡ wire_length h
-        → length (b ∷ h) + (cond t 1 0 + count_by is_special h) ≡ n + wire_length h
-    go true n e x = omega arith
-    go false n e x = omega arith
 
 -- where the first n bytes held end on the wire, by what escaping adds to them: within 16 bits
 module _ (bs : List ℕ) (n e : ℕ) (full : length bs ≡ limit) (within : n ≤ limit) (added : length (take n bs) + e ≡ wire_length (take n bs)) where

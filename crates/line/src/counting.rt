@@ -23,11 +23,15 @@ pub fn width(b: u8) -> usize
 }
 
 // How many ESCs stand in the escaped form of these bytes.
-#[tactic(auto, using(crate::proofs::CountingLaws::special_count))]
+// Stays: a sum; tried, of `filter` and `count` each byte took a test and a jump, and listing refused packets took longer.
 pub fn escapes(bytes: &[u8]) -> usize
     ensures { length bytes.now + result ≡ wire_length bytes.now }
 {
-    bytes.iter().filter(|b| is_special(**b)).count()
+    let mut added = 0;
+    for b in bytes {
+        added += width(*b) - 1;
+    }
+    added
 }
 
 // Both places of a byte.

@@ -4,7 +4,7 @@ ghost use Rattle.std.specs.Prelude.{◌≤◌, ◌≡◌, ◌==◌, length, posi
 ghost use Rattle.line.specs.declared.Mode.TheVariants.{Plain};
 ghost use Rattle.line.specs.Reader.{limit, read};
 ghost use Rattle.line.specs.Answers.{emptied_reading, taken, taken_as, answer_of, Answers};
-ghost use Rattle.line.specs.Step.{told_at, is_special, Runs, Skips};
+ghost use Rattle.line.specs.Step.{told_at, Runs, Skips};
 
 use crate::counting::{fault_behind, is_special};
 use crate::step::{Action, decide, taken_at};
@@ -114,15 +114,20 @@ fn plain_run(mode: Mode, bytes: &mut [u8; LIMIT], count: usize, wire: &[u8], at:
     }
 }
 
+// Stays: byte by byte. Most runs are short, and one whose end is looked for first and that is then copied at once is gone over twice:
+// tried, and listing frames took up to half as long again.
 fn copy_run(bytes: &mut [u8; LIMIT], count: usize, wire: &[u8], at: usize) -> usize
     requires { (count ≤ limit) × (at ≤ length wire.now) }
     ensures { Runs Plain bytes.old count wire.now at bytes.new result }
 {
     let most = (LIMIT - count).min(wire.len() - at);
-    let next = &wire[at..at + most];
-    let run = first_special(next).unwrap_or(most);
-    bytes[count..count + run].copy_from_slice(&next[..run]);
-    run
+    for (run, b) in wire[at..at + most].iter().enumerate() {
+        if is_special(*b) {
+            return run;
+        }
+        bytes[count + run] = *b;
+    }
+    most
 }
 
 // How many bytes from `at` on are skipped in a settled piece: those before its END.
@@ -134,14 +139,7 @@ fn skip_run(wire: &[u8], at: usize) -> usize
     first_end(rest).unwrap_or(rest.len())
 }
 
-// The first byte that is sent escaped, and the first END.
-// Stays: two functions; of one that takes the test as a closure the goal what `position` finds stayed open.
-fn first_special(bytes: &[u8]) -> Option<usize>
-    ensures { result ≡ position is_special bytes.now }
-{
-    bytes.iter().position(|b| is_special(*b))
-}
-
+// The first END.
 fn first_end(bytes: &[u8]) -> Option<usize>
     ensures { result ≡ position (λ b. b == END) bytes.now }
 {

@@ -23,17 +23,23 @@ impl Page<'_> {
     pub fn append_hex4(&mut self, number: u16)
         ensures { Writes (hex4 number) self.old self.new }
     {
-        let n = u64::from(number);
-        let digits = [digit(n / 4096), digit(n / 256), digit(n / 16), digit(n)];
-        self.append(&digits);
+        if self.room() < 4 {
+            return;
+        }
+        self.at = hex4(self.out, self.at, number);
     }
 }
 
 // How many decimal digits a number has; 0 has one.
+// Stays: short numbers, which are most, are compared; tried, of `ilog10` alone a frame's line took longer.
 pub fn width(number: u64) -> usize
     ensures { result ≡ length (decimal number) }
 {
-    number.max(1).ilog10() as usize + 1
+    match number {
+        0..=9 => 1,
+        10..=99 => 2,
+        _ => number.ilog10() as usize + 1,
+    }
 }
 
 // The last hexadecimal digit of a number: 0 to 9, then A to F.
@@ -59,4 +65,18 @@ fn decimal(out: &mut [u8], at: usize, count: usize, number: u64) -> usize
         rest /= 10;
     }
     end
+}
+
+// The four hexadecimal digits of `number`.
+// Stays: stored one by one, as in `decimal`; tried, of an array of them that is appended a frame's line took longer.
+fn hex4(out: &mut [u8], at: usize, number: u16) -> usize
+    requires { at + 4 ≤ length out.old }
+    ensures { Wrote out.old at (hex4 number) out.new result }
+{
+    let n = u64::from(number);
+    out[at] = digit(n / 4096);
+    out[at + 1] = digit(n / 256);
+    out[at + 2] = digit(n / 16);
+    out[at + 3] = digit(n);
+    at + 4
 }

@@ -10,7 +10,6 @@ use native.Mathlib.Omega.{arith}
 use lib.ListN.{length, take, drop, set, get_or, length-set, length-take, length-drop, drop_of_length-le}
 use lib.Seq.{take_all, length-take-le, take-take, take-suc-set, drop-cons}
 use borrow.Author.Tests.{lt-ltb, ltb-false, ne_eqb, eqb-false}
-use borrow.Rule.Slice.PartMut.{put_mid}
 use Rattle.std.specs.Prelude.{Some, None, unwrap_or, position, slice_get, eqb, ltb}
 use Rattle.std.proofs.Common.{inl, inr}
 use Rattle.std.proofs.lemmas.Option.{slice_get_within, slice_get_cases, get_or_from_slice_get}
@@ -18,9 +17,6 @@ use Rattle.std.specs.List.{position_or_len}
 use Rattle.std.proofs.lemmas.Bool.{false≢true}
 use Rattle.std.proofs.lemmas.List.{get_or-take, get_or-drop}
 use Rattle.std.proofs.lemmas.List.Sums.{prefix_len-le-length, fails_before_first}
-use Rattle.std.proofs.lemmas.List.Edits.{paste_none, paste_more}
-use Rattle.std.proofs.lemmas.Slice.{put_mid-paste}
-use Rattle.std.proofs.Math.Seq.{paste}
 use Rattle.line.specs.Places.{FaultAt}
 use Rattle.line.specs.declared.Mode.{Mode}
 use Rattle.line.specs.declared.Mode.TheVariants.{Plain, Escaped, Skipping}
@@ -130,31 +126,15 @@ runs_more bs n w i cs k x l p q r =
       clear = λ y. tt;
     }
 
--- k bytes that go as they are, stored at once
-runs_stored : (bs : List ℕ) (n : ℕ) (w : List ℕ) (i : ℕ) (k : ℕ) → length bs ≡ limit → n + k ≤ limit → i + k ≤ length w
-    → ((j : ℕ) → j < k → is_special (get_or w (i + j) 0) ≡ false) → Runs Plain bs n w i (paste bs n (drop i w) k) k
-runs_stored bs n w i zero full h l goes = rw (← paste_none bs n (drop i w)) (runs_none Plain bs n w i full (omega arith) (omega arith))
-runs_stored bs n w i (suc k) full h l goes =
-    let before = runs_stored bs n w i k full (omega arith) (omega arith) (λ j x. goes j (omega arith)) in
-    let b = not_special (get_or w (i + k) 0) (goes k (omega arith)) in
-    let more = runs_more bs n w i (paste bs n (drop i w) k) k before (omega arith) b.0 b.1 (omega arith) in
-    rw (← get_or-drop i w k 0, paste_more bs n (drop i w) k 0 (omega arith) (simp length-drop (omega arith)), add-one) at more
-
--- those of at most m next bytes before one that is sent escaped
-pub runs_front : (bs : List ℕ) (n : ℕ) (w : List ℕ) (i m k : ℕ) (front : List ℕ) → length bs ≡ limit → n ≤ limit → i ≤ length w → m ≡ min (limit - n) (length w - i)
-    → k ≡ unwrap_or (position is_special (take (i + m - i) (drop i w))) m → front ≡ take k (take (i + m - i) (drop i w))
-    → Runs Plain bs n w i (put_mid n (n + k - n) bs front) k
-runs_front bs n w i m k front full h l e x f =
-    let same : i + m - i ≡ m = omega arith in
-    let long : length (take m (drop i w)) ≡ m = simp (length-take, length-drop) (omega arith) in
-    let found = first_or_end is_special (take m (drop i w)) m k (sym long) (rw same at x) in
-    let within : k ≤ m = found.0 in
-    let goes : (j : ℕ) → j < k → is_special (get_or w (i + j) 0) ≡ false = λ j y. rw (get_or-take m (drop i w) j 0 (omega arith), get_or-drop i w j 0) at (found.1 j y) in
-    let taken : front ≡ take k (drop i w) = rw (same, take-take k m (drop i w) within) at f in
-    let held : length (take k (drop i w)) ≡ k = simp (length-take, length-drop) (omega arith) in
-    let put : put_mid n (n + k - n) bs front ≡ paste bs n (take k (drop i w)) k = put_mid-paste n (n + k - n) bs front (take k (drop i w)) k taken (omega arith) (omega arith) in
-    let same_front : take k (take k (drop i w)) ≡ take k (drop i w) = take-take k k (drop i w) (omega arith) in
-    rw (put, same_front) (runs_stored bs n w i k full (omega arith) (omega arith) goes)
+-- one more of at most m next bytes
+pub runs_next : (bs : List ℕ) (n : ℕ) (w : List ℕ) (i m : ℕ) (cs : List ℕ) (k : ℕ) → m ≡ min (limit - n) (length w - i) → k < length (take (i + m - i) (drop i w)) → Runs Plain bs n w i cs k
+    → is_special (get_or (take (i + m - i) (drop i w)) k 0) ≡ false → Runs Plain bs n w i (set cs (n + k) (get_or (take (i + m - i) (drop i w)) k 0)) (k + 1)
+runs_next bs n w i m cs k e l x p =
+    let long : k < min (i + m - i) (length w - i) = simp (length-take, length-drop) at l in
+    let h : k < m = omega arith in
+    let next : get_or (take (i + m - i) (drop i w)) k 0 ≡ get_or w (i + k) 0 = rw (get_or-take (i + m - i) (drop i w) k 0 (omega arith), get_or-drop i w k 0) in
+    let b = not_special (get_or w (i + k) 0) (rw next at p) in
+    rw next (runs_more bs n w i cs k x (omega arith) b.0 b.1 (omega arith))
 
 -- ---- a run of skipped bytes
 
