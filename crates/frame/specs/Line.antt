@@ -10,5 +10,7 @@ unfoldable pub use Rattle.line.specs.Reachable.{decoded_fits, possible, written}
 pub use Rattle.line.specs.WireLaws.{escape_append, escape_short, escape-plain}
 pub use Rattle.line.specs.Answers.{Clear}
 pub use Rattle.line.specs.Step.{Takes}
-pub use Rattle.line.specs.AnswerLaws.{taken_clear, taken_reachable}
+pub use Rattle.line.specs.AnswerLaws.{taken_clear, taken_reachable, emptied-taken}
+pub use Rattle.line.specs.declared.Answer.{Answer}
+pub use Rattle.line.specs.declared.AnswerAt.{AnswerAt}
 pub use Rattle.line.specs.HeldLaws.{record_of, taken_record, record_bounded}

@@ -8,7 +8,5 @@ use line::{Reading, Told};
 pub fn read_frame(reading: &mut Reading, wire: &[u8]) -> Told<FrameOutcome>
     ensures { ReadsFrame reading.old wire.now result reading.new }
 {
-    let answer = crate::reader::read(*reading, wire);
-    *reading = answer.reading;
-    answer.into()
+    crate::reader::read(*reading, wire).store_back(reading)
 }

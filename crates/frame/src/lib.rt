@@ -13,7 +13,7 @@ mod writer;
 pub use checks::{judge, number};
 pub use lent::read_frame;
 use line::Places;
-pub use line::{END, ESC, LIMIT, taken_cursor};
+pub use line::{Answer, AnswerAt, END, ESC, LIMIT, Told, taken_cursor};
 pub use reader::{emptied, read, read_in};
 pub use view::{View, broken_at, command, data, refusal, show};
 pub use writer::{measure, write, write_at};

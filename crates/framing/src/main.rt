@@ -5,8 +5,8 @@
 ghost use Rattle.frame.specs.Reader.{taken, read};
 ghost use Rattle.frame.specs.Answers.{Answers};
 
-use frame::{FrameOutcome, LongData, WriteRefusal};
-use line::{Answer, Reading};
+use frame::{Answer, FrameOutcome, LongData, WriteRefusal};
+use line::Reading;
 use std::io::{Print, Stdout};
 use text::{COLON, DATA, GAP, LINE_END, NOTHING, PACKET, Page};
 

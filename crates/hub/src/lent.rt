@@ -17,22 +17,12 @@ pub fn feed(
 ) -> Answered<Told>
     ensures { Feeds hub table.old reading.old line bytes.now room.old result.answer result.hub table.new reading.new room.new }
 {
-    let fed = requests::call(hub, table, *reading, line, bytes, room);
-    *reading = fed.reading;
-    Answered {
-        answer: fed.answer,
-        hub: fed.hub,
-    }
+    requests::call(hub, table, *reading, line, bytes, room).store_back(reading)
 }
 
 // A line is closed: its login is lost, its reading state emptied, its sessions closed.
 pub fn close(hub: Hub, reading: &mut Reading, line: u8) -> Answered<()>
     ensures { Closes hub reading.old line result.answer result.hub reading.new }
 {
-    let closed = crate::closing::close_record(hub, *reading, line);
-    *reading = closed.reading;
-    Answered {
-        answer: closed.answer,
-        hub: closed.hub,
-    }
+    crate::closing::close_record(hub, *reading, line).store_back(reading)
 }

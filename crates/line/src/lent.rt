@@ -8,9 +8,18 @@ use crate::{Answer, PacketOutcome, Reading, Told};
 pub fn read_packet(reading: &mut Reading, wire: &[u8]) -> Told<PacketOutcome>
     ensures { ReadsPacket reading.old wire.now result reading.new }
 {
-    let answer = crate::reader::read(*reading, wire);
-    *reading = answer.reading;
-    answer.into()
+    crate::reader::read(*reading, wire).store_back(reading)
+}
+
+impl<O> Answer<O> {
+    // Stores the reading back where it was lent, and gives the rest.
+    pub fn store_back(self, reading: &mut Reading) -> Told<O>
+        ensures stored { reading.new ≡ self.reading }
+        ensures rest { result ≡ told_of self }
+    {
+        *reading = self.reading;
+        self.into()
+    }
 }
 
 // What an answer tells beside its reading.

@@ -5,10 +5,9 @@ use Rattle.std.proofs.Math.Seq.{take-length}
 use Rattle.memory.specs.Wrote.{Wrote}
 use Rattle.memory.specs.WroteLaws.{none as Wrote_none, then, kept, front_to, rest}
 use Rattle.line.specs.declared.Cursor.{Cursor}
-use Rattle.frame.specs.Line.{limit, last, Clear, Takes, taken_clear}
+use Rattle.frame.specs.Line.{limit, last, Clear, Takes, taken_clear, AnswerAt}
 use Rattle.frame.specs.declared.FrameOutcome.{FrameOutcome as Given}
 use Rattle.frame.specs.declared.FrameOutcome.TheVariants as given
-use Rattle.line.specs.declared.AnswerAt.{AnswerAt}
 use Rattle.frame.specs.Frame.{Outcome, number, head}
 use Rattle.frame.specs.Reader.{END, State, Scan, taken_as, also, outcomes, final, step, read}
 use Rattle.frame.proofs.ReaderLaws.{outcomes_append, final_append, Tells, scan-tells, used-some}

@@ -17,7 +17,7 @@ use rules::{AnsweredByValue, CallRefusal, FedAt, Hub, SerialLine, Told};
 
 // Bytes on a line: reads up to the first outcome or the end of the bytes, and serves the outcome.
 pub fn call(
-    mut hub: Hub,
+    hub: Hub,
     table: &mut [u8],
     reading: Reading,
     line: u8,
@@ -26,19 +26,27 @@ pub fn call(
 ) -> AnsweredByValue<Told>
     ensures { Feeds hub table.old reading line bytes.now room.old result.answer result.hub table.new result.reading room.new }
 {
-    let mut held = reading.bytes;
-    let mut cursor = Cursor {
-        count: reading.count,
-        mode: reading.mode,
-    };
-    let answer = serve(&mut hub, table, &mut held, &mut cursor, line, bytes, room);
-    AnsweredByValue {
-        answer,
+    let Reading {
+        bytes: mut held,
+        count,
+        mode,
+    } = reading;
+    let fed = call_in(
         hub,
+        table,
+        &mut held,
+        Cursor { count, mode },
+        line,
+        bytes,
+        room,
+    );
+    AnsweredByValue {
+        answer: fed.answer,
+        hub: fed.hub,
         reading: Reading {
             bytes: held,
-            count: cursor.count,
-            mode: cursor.mode,
+            count: fed.cursor.count,
+            mode: fed.cursor.mode,
         },
     }
 }

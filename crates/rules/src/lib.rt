@@ -1,8 +1,10 @@
 // The hub's rules: its state, its answers, and what each request and each call does (document 01; specs/Hub.antt). What the calls promise is
-// specs/Promises.antt, an answer's number specs/Answers.antt. Its code: the lines, who is logged in, and the numbers of the refusals.
+// specs/Promises.antt, an answer's number specs/Answers.antt. Its code: the lines, who is logged in, the numbers of the refusals, and
+// an answer by value on a lent record.
 // It stands on what the frame layer, the directory, the node table, the sessions and the lists of feeds state.
 #![tactic(auto)]
 
+mod lent;
 mod lines;
 mod logins;
 mod refusals;

@@ -2,7 +2,7 @@
 use Rattle.std.proofs.Common.{arith, rules, OnOk, Result, Ok, Err, ◌≡◌, ◌<◌, ◌^◌, ◌++◌, ◌∙◌, List, [], ℕ, sym, ap, subst, take, append-nil}
 use Rattle.std.specs.Io.KnownBytes.{Appends, Consumes}
 use Rattle.std.proofs.KnownBytes.{Appends-nil, Appends-trans, Consumes-nil, Consumes-trans, Consumes-whole}
-use Rattle.line.specs.AnswerLaws.{emptied-taken}
+use Rattle.frame.specs.Line.{emptied-taken}
 use Rattle.frame.specs.Reader.{State, emptied, taken}
 use Rattle.lister.specs.Listing.{left_after, listing}
 use Rattle.lister.specs.Lists.{Calls, done}

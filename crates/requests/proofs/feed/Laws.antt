@@ -9,7 +9,7 @@ use lib.ListN.{length, drop}
 use Rattle.line.specs.declared.Reading.{Reading}
 use Rattle.frame.specs.declared.FrameOutcome.{FrameOutcome}
 use Rattle.frame.specs.declared.FrameOutcome.TheVariants as told_as
-use Rattle.line.specs.declared.Answer.{Answer}
+use Rattle.frame.specs.Line.{Answer}
 use Rattle.frame.specs.Frame.{max_data}
 use Rattle.frame.specs.Reader.{taken, read}
 use Rattle.frame.specs.Answers as outcome
