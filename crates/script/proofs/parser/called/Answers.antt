@@ -16,11 +16,12 @@ returns-in_err-word c =
     let none = c.ok_or.ensures.ok_part ∙ ap result_ok c.in_err-word.was in
     rw (told, rw none at c.next_word.ensures) (record { line = refl; within = tt })
 
+-- the word is written out, so that a test of another word than "start" is refused as that
 pub returns-then-eq : goal.returns-then-eq
 unfolding called ascii
 returns-then-eq c =
     let w = rw (c.ok_or.ensures.ok_part ∙ ap result_ok c.in_ok-word.was) at c.next_word.ensures in
-    rw (w.0, w.1, same-by _ (ascii "start") c.eq.ensures c.if-eq.true)
+    rw (w.0, w.1, same-by c.in_ok-word.word.now (ascii "start") c.eq.ensures c.if-eq.true)
     c.start.ensures
 
 pub returns-then-eq-2 : goal.returns-then-eq-2
