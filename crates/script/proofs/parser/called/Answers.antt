@@ -16,7 +16,7 @@ returns-in_err-word c =
     let none = c.ok_or.ensures.ok_part ∙ ap result_ok c.in_err-word.was in
     rw (told, rw none at c.next_word.ensures) (record { line = refl; within = tt })
 
--- the word is written out, so that a test of another word than "start" is refused as that
+-- the word is written out: where it is compared with another than "start", the refusal names that other
 pub returns-then-eq : goal.returns-then-eq
 unfolding called ascii
 returns-then-eq c =
